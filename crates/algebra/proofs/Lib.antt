@@ -1,0 +1,5 @@
+pub mod Ring
+pub mod Poly
+pub mod ThroughPoints
+pub mod Filling
+pub mod Reading
