@@ -3,3 +3,4 @@ pub mod Poly
 pub mod ThroughPoints
 pub mod Filling
 pub mod Reading
+pub mod Inverses

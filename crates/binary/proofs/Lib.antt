@@ -1,0 +1,5 @@
+pub mod Linear
+pub mod Tests
+pub mod Bilinear
+pub mod Inverse
+pub mod Field
