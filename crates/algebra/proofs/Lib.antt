@@ -4,3 +4,4 @@ pub mod ThroughPoints
 pub mod Filling
 pub mod Reading
 pub mod Inverses
+pub mod Tests

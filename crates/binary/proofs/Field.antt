@@ -14,7 +14,7 @@ use Rattle.algebra.proofs.Inverses.{inverse-found, inverse-none, inverse-is}
 use Rattle.algebra.proofs.Reading.{OnCodes, lawful}
 use Rattle.binary.specs.Binary.{product, on-codes, binary-field}
 use Rattle.binary.proofs.Linear.{product-xor, zero-product}
-use Rattle.binary.proofs.Tests.{below, below-at}
+use Rattle.algebra.proofs.Tests.{below, below-at}
 use Rattle.binary.proofs.Bilinear.{Basis, product-lt, product-comm, product-assoc, product-one}
 use Rattle.binary.proofs.Inverse.{Squares, frob, apply, tower, tower-lt, tower-inverse}
 

@@ -1,5 +1,4 @@
 pub mod Linear
-pub mod Tests
 pub mod Bilinear
 pub mod Inverse
 pub mod Field

@@ -9,7 +9,7 @@ use lib.Dec.{T, eqb, ltb, eqb→eq, ltb→lt, lit<}
 use lib.ListN.{getD, length, drop}
 use Rattle.algebra.specs.Fields.{inverse}
 use Rattle.binary.specs.Binary.{carryless, remainder, product}
-use Rattle.binary.proofs.Tests.{both, both-left, both-right}
+use Rattle.algebra.proofs.Tests.{both, both-left, both-right}
 use Rattle.binary.proofs.Bilinear.{Basis, product-lt, product-comm, product-assoc, product-one}
 use Rattle.binary.proofs.Field.{basis, only-inverse}
 use Rattle.binary.proofs.Linear.{product-zero, zero-product}

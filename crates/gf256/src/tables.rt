@@ -58,14 +58,14 @@ const EXPONENTS: [u8; 256] = [
     79, 174, 213, 233, 230, 231, 173, 232, 116, 214, 244, 234, 168, 80, 88, 175,
 ];
 
-pub fn power_of_two(i: usize) -> u8
+pub(crate) fn power_of_two(i: usize) -> u8
     requires { ⌜ i < 510 ⌝ }
     ensures { λ r. ⌜ r ≡ power i ⌝ }
 {
     POWERS[i]
 }
 
-pub fn exponent(a: u8) -> usize
+pub(crate) fn exponent(a: u8) -> usize
     requires { ⌜ 0 < a ⌝ }
     ensures small { λ r. ⌜ r < 255 ⌝ }
     ensures value { λ r. ⌜ power r ≡ a ⌝ }
