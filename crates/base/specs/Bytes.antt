@@ -21,6 +21,10 @@ le-value (b ∷ bs) = b + 256 * le-value bs
 abbrev pub part : List ℕ → ℕ → ℕ → List ℕ
 part bs at len = take len (drop at bs)
 
+-- a buffer that is overwritten from a place on
+abbrev pub written : List ℕ → ℕ → List ℕ → List ℕ
+written buffer at bs = take at buffer ++ (bs ++ drop (at + length bs) buffer)
+
 -- a buffer whose front is overwritten
 abbrev pub over : List ℕ → List ℕ → List ℕ
 over bs buffer = bs ++ drop (length bs) buffer

@@ -69,8 +69,9 @@ pub impl Field for Gf256 as Gf256Field {
         u32::from(coded(a) ^ coded(b))
     }
 
+    // each code is its own opposite
     fn sub(a: u32, b: u32) -> u32 {
-        u32::from(coded(a) ^ coded(b))
+        Self::add(a, b)
     }
 
     fn mul(a: u32, b: u32) -> u32 {
