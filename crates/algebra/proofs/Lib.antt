@@ -5,3 +5,4 @@ pub mod Filling
 pub mod Reading
 pub mod Inverses
 pub mod Tests
+pub mod Stored

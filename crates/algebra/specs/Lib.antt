@@ -1,3 +1,4 @@
 pub mod Fields
 pub mod Polynomials
 pub mod Lagrange
+pub mod Slices

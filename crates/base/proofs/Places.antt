@@ -6,7 +6,7 @@ use Prim.Native.Nat.{ℕ, zero, suc, min, _+_, _-_, _*_, _/_, _%_, _^_, _<_, _�
 use native.Mathlib.Nat.{add-zero, add-assoc, suc-add, pow-succ', div-div-eq-div-mul, div-one}
 use native.Mathlib.Omega.{arith}
 use lib.ListN.{length, getD, take, drop, set}
-use Rattle.std.proofs.shelf.Lists.{getD-take, getD-drop, getD-past, length-take, length-take-le, length-append, append-assoc, take-append-drop, drop-more, set-at}
+use Rattle.std.proofs.shelf.Lists.{getD-take, getD-drop, getD-past, length-take, length-take-le, length-append, append-assoc, take-append-drop, drop-more, drop-all, set-at}
 use Rattle.std.proofs.shelf.Tests.{cases-lt}
 use Rattle.base.specs.Bytes.{le-bytes, le-value, part, written}
 
@@ -52,3 +52,11 @@ written-more out bs at i x n h =
     ∙ set-at front (getD out (at + i) 0) (drop (at + i + 1) out) x (at + i) long
     ∙ append-assoc (take at out) bs (x ∷ drop (at + i + 1) out) ∙ ap (λ m. take at out ++ (bs ++ x ∷ drop m out)) end
     ∙ ap (λ xs. take at out ++ xs) (sym (append-assoc bs (x ∷ []) (drop (at + length (bs ++ x ∷ [])) out)))
+
+-- a place past the end reads nothing, so a sum that is held at the largest number reads the same
+pub part-saturated : (bs : List ℕ) (a b n width : ℕ) → length bs ≤ n → part bs (min (min a n + b) n) width ≡ part bs (a + b) width
+part-saturated bs a b n width h = ⊎-elim (λ l. let e : min (min a n + b) n ≡ a + b = omega arith in ap (λ m. part bs m width) e)
+    (λ l.
+      let low : length bs ≤ min (min a n + b) n = omega arith in
+      let high : length bs ≤ a + b = omega arith in
+      ap (take width) (drop-all (min (min a n + b) n) bs low ∙ sym (drop-all (a + b) bs high))) (cases-lt (a + b) n)
