@@ -1,3 +1,4 @@
 pub mod Little
 pub mod Places
 pub mod Pieces
+pub mod Placed

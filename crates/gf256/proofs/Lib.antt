@@ -1,3 +1,4 @@
 pub mod Laws256
 pub mod Entries
 pub mod Rules
+pub mod Sums

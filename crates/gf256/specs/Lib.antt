@@ -1,2 +1,3 @@
 pub mod Gf256
 pub mod Powers
+pub mod Slices

@@ -5,8 +5,10 @@ ghost use Rattle.algebra.specs.Fields.{code, inverse};
 ghost use Rattle.binary.specs.Binary.{product};
 ghost use Rattle.gf256.specs.Gf256.{gf256};
 use algebra::Field;
+use crate::slices::combine_bits;
 use crate::tables::{exponent, power_of_two};
 
+mod slices;
 mod tables;
 
 fn coded(a: u32) -> u8
@@ -80,5 +82,9 @@ pub impl Field for Gf256 as Gf256Field {
 
     fn inv(a: u32) -> u32 {
         u32::from(inverse(coded(a)))
+    }
+
+    fn combine(weights: &[u32], sources: &[u8], stride: usize, out: &mut [u8]) {
+        combine_bits(weights, sources, stride, out);
     }
 }
