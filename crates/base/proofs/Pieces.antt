@@ -1,16 +1,22 @@
 -- A buffer that is overwritten piece by piece, all pieces of one width. Assumes nothing.
 use mathlib.Core.List.{List, [], _∷_, _++_}
-use mathlib.Core.Path.{_≡_, refl, sym, ap, _∙_}
-use Prim.Native.Nat.{ℕ, zero, suc, _+_, _*_, _<_, _≤_}
-use native.Mathlib.Nat.{zero-add, add-assoc, add-mul, one-mul, zero-mul}
+use mathlib.Core.Logic.{⊎-elim}
+use mathlib.Core.Path.{_≡_, refl, sym, ap, subst, _∙_}
+use mathlib.Core.Bool.{cond}
+use Prim.Native.Nat.{ℕ, zero, suc, _+_, _*_, _/_, _<_, _≤_}
+use native.Mathlib.Nat.{zero-add, add-mul, one-mul, zero-mul, mul-le-mul-right, div-mul-le-self}
+use lib.Dec.{leb}
+use borrow.Author.Tests.{le-leb}
 use native.Mathlib.Numerals.{add-one}
 use native.Mathlib.Omega.{arith}
 use lib.ListN.{length, take, drop}
 use Rattle.std.specs.Iters.{counting}
 use Rattle.std.specs.Joined.{joined}
-use Rattle.std.proofs.shelf.Lists.{append-assoc, length-append, take-at, drop-at, drop-drop, joined-more, map-id}
+use Rattle.std.proofs.shelf.Lists.{append-assoc, length-append, take-at, take-append-le, drop-at, drop-append-le, drop-drop, length-drop, joined-more, map-id}
 use Rattle.std.proofs.shelf.Counted.{map-counting-more}
-use Rattle.base.specs.Bytes.{over, written}
+use Rattle.std.proofs.shelf.Tests.{cases-lt}
+use Rattle.base.specs.Bytes.{le-bytes, part, over, written}
+use Rattle.base.proofs.Little.{length-le-bytes}
 
 pub counting-more : (a n : ℕ) → counting a (n + 1) ≡ counting a n ++ (a + n) ∷ []
 counting-more a n =
@@ -44,3 +50,52 @@ module _ (g : ℕ → List ℕ) (v : ℕ) (wide : (j : ℕ) → length (g j) ≡
   -- all pieces
   pub put-pieces : (was now : List ℕ) (n : ℕ) → now ≡ joined g (counting 0 n) ++ drop (n * v) was → now ≡ over (joined g (counting 0 n)) was
   put-pieces was now n e = e ∙ ap (λ m. joined g (counting 0 n) ++ drop m was) (sym (length-pieces n))
+
+  -- each piece can be read again, whatever follows
+  pub piece-at : (n j : ℕ) (rest : List ℕ) → j < n → part (joined g (counting 0 n) ++ rest) (j * v) v ≡ g j
+  piece-at zero j rest h = absurd (omega arith)
+  piece-at (suc n) j rest h =
+      let front = joined g (counting 0 n) in
+      let split : joined g (counting 0 (suc n)) ++ rest ≡ front ++ (g n ++ rest) =
+        ap (λ m. joined g (counting 0 m) ++ rest) (sym (add-one n)) ∙ ap (λ xs. xs ++ rest) (pieces-more n) ∙ append-assoc front (g n) rest in
+      ap (λ xs. part xs (j * v) v) split
+      ∙ ⊎-elim (λ l. piece-at n j (g n ++ rest) l)
+        (λ l.
+          let same : n ≡ j = omega arith in
+          let long : length front ≡ j * v = length-pieces n ∙ ap (λ m. m * v) same in
+          ap (take v) (drop-at front (g n ++ rest) (j * v) long) ∙ take-at (g n) rest v (wide n) ∙ ap g same) (cases-lt j n)
+
+-- a place of a buffer is within it
+pub place-within : (j width n : ℕ) → j < n / width → j * width + width ≤ n
+place-within j width n h = omega (arith, add-mul j 1 width, one-mul width, mul-le-mul-right width h, div-mul-le-self n width)
+
+-- Numbers stored one after the other, v bytes each, by a loop whose width is known as `width`.
+module _ (g : ℕ → ℕ) (v : ℕ) where
+  abbrev pub stored : ℕ → List ℕ
+  stored n = joined (λ j. le-bytes v (g j)) (counting 0 n)
+
+  wide : (j : ℕ) → length (le-bytes v (g j)) ≡ v
+  wide j = length-le-bytes v (g j)
+
+  pub stored-none : (was : List ℕ) → was ≡ stored 0 ++ drop (0 * v) was
+  stored-none was = let e : 0 ≡ 0 * v = omega arith in ap (λ m. drop m was) e
+
+  pub stored-next : (width : ℕ) → width ≡ v → (was now last : List ℕ) (j n : ℕ) → now ≡ stored j ++ drop (j * v) was → length now ≡ length was →
+      j < length was / width → n ≡ g j → last ≡ cond (leb (j * width + width) (length now)) (written now (j * width) (le-bytes width n)) now →
+      last ≡ stored (j + 1) ++ drop ((j + 1) * v) was
+  stored-next width ew was now last j n e long h en el =
+      let room : j * v + v ≤ length now = omega (arith, place-within j v (length was) (subst (λ m. j < length was / m) ew h)) in
+      el ∙ ap (λ m. cond (leb (j * m + m) (length now)) (written now (j * m) (le-bytes m n)) now) ew
+      ∙ ap (λ t. cond t (written now (j * v) (le-bytes v n)) now) (le-leb (j * v + v) (length now) room)
+      ∙ put-piece (λ j. le-bytes v (g j)) v wide was now (le-bytes v n) j e (ap (le-bytes v) en)
+
+  pub stored-end : (width : ℕ) → width ≡ v → (was now : List ℕ) (n : ℕ) → n ≡ length was / width → now ≡ stored n ++ drop (n * v) was →
+      now ≡ over (stored (length was / v)) was
+  stored-end width ew was now n en e =
+      put-pieces (λ j. le-bytes v (g j)) v wide was now n e ∙ ap (λ m. over (stored m) was) (en ∙ ap (λ m. length was / m) ew)
+
+  pub stored-place : (n j : ℕ) (rest : List ℕ) → j < n → part (stored n ++ rest) (j * v) v ≡ le-bytes v (g j)
+  stored-place n j rest h = piece-at (λ j. le-bytes v (g j)) v wide n j rest h
+
+  pub length-stored : (n : ℕ) → length (stored n) ≡ n * v
+  length-stored n = length-pieces (λ j. le-bytes v (g j)) v wide n

@@ -21,6 +21,12 @@ pub saturated : (bs : List ℕ) (i n : ℕ) → length bs ≤ n → getD bs (min
 saturated bs i n h = ⊎-elim (λ l. let e : min i n ≡ i = omega arith in ap (λ m. getD bs m 0) e)
     (λ l. let a : length bs ≤ min i n = omega arith in let b : length bs ≤ i = omega arith in getD-past bs (min i n) 0 a ∙ sym (getD-past bs i 0 b)) (cases-lt i n)
 
+pub le-value-two : (xs : List ℕ) → length xs ≤ 2 → le-value xs ≡ getD xs 0 0 + getD xs 1 0 * 256
+le-value-two [] h = refl
+le-value-two (a ∷ []) h = omega arith
+le-value-two (a ∷ b ∷ []) h = omega arith
+le-value-two (a ∷ b ∷ c ∷ xs) h = absurd (omega arith)
+
 pub le-value-four : (xs : List ℕ) → length xs ≤ 4 →
     le-value xs ≡ getD xs 0 0 + getD xs 1 0 * 256 + getD xs 2 0 * 65536 + getD xs 3 0 * 16777216
 le-value-four [] h = refl

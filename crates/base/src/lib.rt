@@ -29,6 +29,13 @@ fn byte_of_part(bytes: &[u8], at: usize, width: usize, i: usize) -> u8
     if i < width { byte_at(bytes, at.saturating_add(i)) } else { 0 }
 }
 
+// The little-endian number in the two bytes at a place; a byte past the end counts as 0.
+pub fn u16_at(bytes: &[u8], at: usize) -> u16
+    ensures { λ r. ⌜ r ≡ le-value (part (now (bytes .entry)) at 2) ⌝ }
+{
+    u16::from_le_bytes([byte_of_part(bytes, at, 2, 0), byte_of_part(bytes, at, 2, 1)])
+}
+
 // The little-endian number in so many bytes from a place on, four at most; a byte past the end counts as 0.
 pub fn le_at(bytes: &[u8], at: usize, width: usize) -> u32
     ensures { λ r. ⌜ r ≡ le-value (part (now (bytes .entry)) at (min width 4)) ⌝ }
