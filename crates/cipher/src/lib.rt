@@ -5,7 +5,7 @@ ghost use mathlib.Core.Path.{_≡_};
 ghost use Prim.Native.Nat.{ℕ};
 ghost use Rattle.cipher.specs.Blocks.{Block, CipherLaws, xor};
 
-pub trait Cipher: Sized {
+pub trait Cipher: Sized + Drop {
     // the number that a sealed file carries; clauses know it as `number`
     const NUMBER: u16;
 

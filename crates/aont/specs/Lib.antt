@@ -1,0 +1,2 @@
+pub mod Package
+pub mod Seals
