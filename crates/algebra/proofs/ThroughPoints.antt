@@ -127,9 +127,23 @@ module _ (f : Ops) (L : Laws f) where
     pub formula-value : ((i : ℕ) → i < k → vs i < f .size) → (x : ℕ) → x < f .size → ValueAt f k ps vs x (lagrange f k ps vs x)
     formula-value h x hx = record { polynomial = formula-polynomial .coeffs; through = through h; value = formula-polynomial .value x hx }
 
-  sum-same : (n : ℕ) (g h : ℕ → ℕ) → ((i : ℕ) → i < n → g i ≡ h i) → sumTo f n g ≡ sumTo f n h
+  pub sum-same : (n : ℕ) (g h : ℕ → ℕ) → ((i : ℕ) → i < n → g i ≡ h i) → sumTo f n g ≡ sumTo f n h
   sum-same zero g h e = refl
   sum-same (suc n) g h e = ap (λ m. f .add m (g n)) (sum-same n g h (λ i hi. e i (omega arith))) ∙ ap (f .add (sumTo f n h)) (e n (omega arith))
+
+  prod-same : (n : ℕ) (g h : ℕ → ℕ) → ((i : ℕ) → i < n → g i ≡ h i) → prodTo f n g ≡ prodTo f n h
+  prod-same zero g h e = refl
+  prod-same (suc n) g h e = ap (λ m. f .mul m (g n)) (prod-same n g h (λ i hi. e i (omega arith))) ∙ ap (f .mul (prodTo f n h)) (e n (omega arith))
+
+  -- the formula goes by the first k points and values alone
+  pub weight-same : (k : ℕ) (ps qs : ℕ → ℕ) (p x : ℕ) → ((i : ℕ) → i < k → ps i ≡ qs i) → weight f k ps p x ≡ weight f k qs p x
+  unfolding weight
+  weight-same k ps qs p x e = prod-same k _ _ (λ i hi. ap (λ q. factor f p q x) (e i hi))
+
+  pub lagrange-same : (k : ℕ) (ps qs vs us : ℕ → ℕ) (x : ℕ) → ((i : ℕ) → i < k → ps i ≡ qs i) → ((i : ℕ) → i < k → vs i ≡ us i) →
+      lagrange f k ps vs x ≡ lagrange f k qs us x
+  lagrange-same k ps qs vs us x ep ev =
+      sum-same k _ _ (λ i hi. ap (λ v. f .mul v (weight f k ps (ps i) x)) (ev i hi) ∙ ap (f .mul (us i)) (weight-same k ps qs (ps i) x ep ∙ ap (λ p. weight f k qs p x) (ep i hi)))
 
   -- and so do numbers that are the formula's weights
   pub weights-value : (k : ℕ) (ps : ℕ → ℕ) → Points f k ps → (ws vs : ℕ → ℕ) → ((i : ℕ) → i < k → vs i < f .size) → (x : ℕ) → x < f .size →

@@ -16,7 +16,8 @@ use Rattle.std.proofs.shelf.Tests.{both-ways, cond-false, cond-true}
 use Rattle.base.specs.Bytes.{Bytes, le-value, part}
 use Rattle.cipher.specs.Blocks.{CipherLaws}
 use Rattle.aont.specs.Package.{block, canary, canary-in, frame, frame-in, message-in}
-use Rattle.aont.specs.Seals.{framed, misfit, unsealed}
+use Rattle.base.specs.Sizes.{misfit}
+use Rattle.aont.specs.Seals.{framed, unsealed}
 use Rattle.aont.proofs.Framing.{frame-from, length-frame, length-named, number-named, zeros-named}
 use Rattle.aont.proofs.Parts.{part-part}
 use Rattle.aont.proofs.Sealed.{bytes-frame-in, canary-block, fits, length-frame-in, length-message-in}

@@ -18,7 +18,8 @@ use Rattle.cipher.specs.Blocks.{Block, CipherLaws, xor}
 use Rattle.aont.specs.declared.fault.SealFault.{SealFault}
 use Rattle.aont.specs.declared.fault.SealFault.the-variants.{CanaryWrong, NoSuchFile, OutputShort, PackageMisfit}
 use Rattle.aont.specs.Package.{block, body, bound, canary, canary-in, file-in, frame, frame-in, key-in, masked, message, message-in, number-block, package-length, sealed}
-use Rattle.aont.specs.Seals.{Seals, Unseals, misfit, unseal-answer, unsealed}
+use Rattle.base.specs.Sizes.{misfit}
+use Rattle.aont.specs.Seals.{Seals, Unseals, unseal-answer, unsealed}
 use Rattle.aont.proofs.Framing.{file-in-frame, length-frame, length-message}
 use Rattle.aont.proofs.Parts.{bytes-drop, bytes-take, part-part}
 use Rattle.aont.proofs.Steps.{block-at, block-end}

@@ -8,7 +8,8 @@ use lib.ListN.{length, take, drop}
 use Rattle.std.proofs.shelf.Lists.{drop-at, length-drop, length-take, length-take-le, take-all, take-at}
 use Rattle.base.specs.Bytes.{le-value, over, part}
 use Rattle.aont.specs.Package.{block, bound, frame-in, masked, message, message-in, package-length, sealed}
-use Rattle.aont.specs.Seals.{misfit, unsealed}
+use Rattle.base.specs.Sizes.{misfit}
+use Rattle.aont.specs.Seals.{unsealed}
 use Rattle.aont.proofs.Framing.{length-message}
 use Rattle.aont.proofs.Parts.{over-next, part-part, take-add, take-size, take-upto}
 use Rattle.aont.proofs.Sealed.{fits, length-blocks, length-frame-in}

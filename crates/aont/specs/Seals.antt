@@ -1,14 +1,15 @@
 -- What sealing and unsealing answer, each refusal in its order, and which packages unseal. Assumes nothing.
-use mathlib.Core.Bool.{Bool, _||_, not}
+use mathlib.Core.Bool.{Bool, not}
 use mathlib.Core.List.{List}
 use mathlib.Core.Path.{_≡_}
-use Prim.Native.Nat.{ℕ, _%_, _≤_}
+use Prim.Native.Nat.{ℕ, _≤_}
 use lib.Dec.{eqb, ltb}
 use lib.ListN.{length}
 use Rattle.std.specs.declared.result.Result.{Result}
 use Rattle.std.specs.declared.result.Result.the-variants.{Ok}
 use Rattle.std.specs.shelf.Text.{sameBytes}
 use Rattle.base.specs.Answers.{refuse}
+use Rattle.base.specs.Sizes.{misfit}
 use Rattle.base.specs.Bytes.{Bytes, over}
 use Rattle.cipher.specs.Blocks.{Block}
 use Rattle.aont.specs.declared.fault.SealFault.{SealFault}
@@ -31,10 +32,6 @@ seal-answer file key out =
     (refuse (not (eqb key 16)) KeyNotSixteen
     (refuse (ltb out (package-length file)) OutputShort
     (Ok (package-length file))))
-
--- no package is so long
-abbrev pub misfit : ℕ → Bool
-misfit n = not (eqb (n % 16) 0) || ltb n 48 || ltb 4128 n
 
 module _ (E : List ℕ → List ℕ → List ℕ) (number : ℕ) where
   -- the file that a package names

@@ -15,9 +15,9 @@ pub use crate::fault::SealFault;
 use crate::frame::lay_out;
 use crate::opening::file_length;
 use crate::opening::has_canary;
-use crate::opening::is_misfit;
 use crate::opening::key_in;
 use crate::opening::write_file;
+use base::is_misfit;
 use cipher::Cipher;
 
 mod blocks;

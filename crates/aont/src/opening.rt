@@ -7,8 +7,9 @@ ghost use lib.ListN.{length};
 ghost use Rattle.std.specs.declared.option.Option.the-variants.{Some, None};
 ghost use Rattle.std.specs.shelf.Text.{sameBytes};
 ghost use Rattle.base.specs.Bytes.{over};
+ghost use Rattle.base.specs.Sizes.{misfit};
 ghost use Rattle.aont.specs.Package.{block, canary, canary-in, key-in, message-in};
-ghost use Rattle.aont.specs.Seals.{framed, misfit, unsealed};
+ghost use Rattle.aont.specs.Seals.{framed, unsealed};
 use crate::blocks::bind;
 use crate::blocks::block_at;
 use crate::blocks::masked_block;
@@ -18,13 +19,6 @@ use crate::frame::is_canary;
 use crate::frame::is_padded;
 use crate::frame::length_in;
 use cipher::Cipher;
-
-// Whether no package has that length.
-pub(crate) fn is_misfit(size: usize) -> bool
-    ensures { λ r. ⌜ r ≡ misfit size ⌝ }
-{
-    size % 16 != 0 || size < 48 || size > 4128
-}
 
 // The key that a package's last block binds.
 pub(crate) fn key_in<C: Cipher>(package: &[u8]) -> [u8; 16]

@@ -3,16 +3,17 @@ use mathlib.Core.List.{List, [], _∷_, _++_}
 use mathlib.Core.Logic.{⊎-elim}
 use mathlib.Core.Path.{_≡_, refl, sym, ap, subst, _∙_}
 use mathlib.Core.Bool.{cond}
-use Prim.Native.Nat.{ℕ, zero, suc, _+_, _*_, _/_, _<_, _≤_}
+use Prim.Native.Nat.{ℕ, zero, suc, _+_, _-_, _*_, _/_, _<_, _≤_}
 use native.Mathlib.Nat.{zero-add, add-mul, one-mul, zero-mul, mul-le-mul-right, div-mul-le-self}
 use lib.Dec.{leb}
 use borrow.Author.Tests.{le-leb}
 use native.Mathlib.Numerals.{add-one}
 use native.Mathlib.Omega.{arith}
 use lib.ListN.{length, take, drop}
+use borrow.Rule.Slice.PartMut.{putMid}
 use Rattle.std.specs.Iters.{counting}
 use Rattle.std.specs.Joined.{joined}
-use Rattle.std.proofs.shelf.Lists.{append-assoc, length-append, take-at, take-append-le, drop-at, drop-append-le, drop-drop, length-drop, joined-more, map-id}
+use Rattle.std.proofs.shelf.Lists.{append-assoc, append-nil, length-append, take-at, drop-at, drop-all, drop-drop, drop-take, take-take, joined-more, map-id}
 use Rattle.std.proofs.shelf.Counted.{map-counting-more}
 use Rattle.std.proofs.shelf.Tests.{cases-lt}
 use Rattle.base.specs.Bytes.{le-bytes, part, over, written}
@@ -21,6 +22,14 @@ use Rattle.base.proofs.Little.{length-le-bytes}
 pub counting-more : (a n : ℕ) → counting a (n + 1) ≡ counting a n ++ (a + n) ∷ []
 counting-more a n =
     sym (map-id (counting a (n + 1))) ∙ map-counting-more (λ x. x) a n (a + n) refl ∙ ap (λ z. z ++ (a + n) ∷ []) (map-id (counting a n))
+
+-- a buffer that is overwritten whole
+pub over-whole : (bs buffer : List ℕ) → length buffer ≤ length bs → over bs buffer ≡ bs
+over-whole bs buffer h = ap (λ xs. bs ++ xs) (drop-all (length bs) buffer h) ∙ append-nil bs
+
+-- a write to a part of a buffer
+pub put-part : (now bs : List ℕ) (a k : ℕ) → length bs ≡ k → putMid a k now bs ≡ written now a bs
+put-part now bs a k e = ap (λ xs. take a now ++ (bs ++ xs)) (drop-drop k a now ∙ ap (λ m. drop (a + m) now) (sym e))
 
 module _ (g : ℕ → List ℕ) (v : ℕ) (wide : (j : ℕ) → length (g j) ≡ v) where
   pub pieces-more : (n : ℕ) → joined g (counting 0 (n + 1)) ≡ joined g (counting 0 n) ++ g n
@@ -64,6 +73,22 @@ module _ (g : ℕ → List ℕ) (v : ℕ) (wide : (j : ℕ) → length (g j) ≡
           let same : n ≡ j = omega arith in
           let long : length front ≡ j * v = length-pieces n ∙ ap (λ m. m * v) same in
           ap (take v) (drop-at front (g n ++ rest) (j * v) long) ∙ take-at (g n) rest v (wide n) ∙ ap g same) (cases-lt j n)
+
+-- pieces that are the same below n are the same together
+pub pieces-same : (g h : ℕ → List ℕ) (n : ℕ) → ((j : ℕ) → j < n → g j ≡ h j) → joined g (counting 0 n) ≡ joined h (counting 0 n)
+pieces-same g h zero e = refl
+pieces-same g h (suc n) e =
+    let step : (f : ℕ → List ℕ) → joined f (counting 0 (suc n)) ≡ joined f (counting 0 n) ++ f n =
+      λ f. ap (λ m. joined f (counting 0 m)) (sym (add-one n)) ∙ ap (joined f) (counting-more 0 n ∙ ap (λ m. counting 0 n ++ m ∷ []) (zero-add n)) ∙ sym (joined-more f [] (counting 0 n) n) in
+    step g ∙ ap (λ xs. xs ++ g n) (pieces-same g h n (λ j l. e j (omega arith))) ∙ ap (λ xs. joined h (counting 0 n) ++ xs) (e n (omega arith)) ∙ sym (step h)
+
+-- a part of a part
+pub part-part : (bs : List ℕ) (a b n v : ℕ) → b + v ≤ n → part (part bs a n) b v ≡ part bs (a + b) v
+part-part bs a b n v h =
+    let split : n ≡ b + (n - b) = omega arith in
+    let le : v ≤ n - b = omega arith in
+    ap (λ m. take v (drop b (take m (drop a bs)))) split ∙ ap (take v) (drop-take b (n - b) (drop a bs)) ∙ take-take v (n - b) (drop b (drop a bs)) le
+    ∙ ap (take v) (drop-drop b a bs)
 
 -- a place of a buffer is within it
 pub place-within : (j width n : ℕ) → j < n / width → j * width + width ≤ n

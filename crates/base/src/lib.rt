@@ -5,6 +5,7 @@ ghost use lib.ListN.{length, getD};
 ghost use mathlib.Core.Bool.{cond};
 ghost use mathlib.Core.Path.{_≡_};
 ghost use Prim.Native.Nat.{_+_, min};
+ghost use Rattle.base.specs.Sizes.{misfit};
 ghost use Rattle.base.specs.Bytes.{Bytes, le-bytes, le-value, part, written};
 
 // Tells a caller's proof that a slice holds bytes; it does nothing else.
@@ -14,6 +15,13 @@ pub fn holds_bytes(bytes: &[u8])
     if bytes.len() > 0 {
         let _first = bytes[0];
     }
+}
+
+// Whether no package has that length: it is no multiple of 16, below 48 or above 4,128.
+pub fn is_misfit(length: usize) -> bool
+    ensures { λ r. ⌜ r ≡ misfit length ⌝ }
+{
+    length % 16 != 0 || length < 48 || length > 4128
 }
 
 // The byte at a place, 0 past the end.
