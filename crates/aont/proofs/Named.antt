@@ -20,7 +20,8 @@ use Rattle.base.specs.Sizes.{misfit}
 use Rattle.aont.specs.Seals.{framed, unsealed}
 use Rattle.aont.proofs.Framing.{frame-from, length-frame, length-named, number-named, zeros-named}
 use Rattle.aont.proofs.Parts.{part-part}
-use Rattle.aont.proofs.Sealed.{bytes-frame-in, canary-block, fits, length-frame-in, length-message-in}
+use Rattle.base.proofs.Lengths.{fits}
+use Rattle.aont.proofs.Sealed.{bytes-frame-in, canary-block, length-frame-in, length-message-in}
 use Rattle.aont.proofs.Steps.{block-at}
 
 tested : (r : Bool) (xs ys : List ℕ) → Decides r (xs ≡ ys) → r ≡ sameBytes xs ys

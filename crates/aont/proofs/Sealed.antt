@@ -19,6 +19,8 @@ use Rattle.aont.specs.declared.fault.SealFault.{SealFault}
 use Rattle.aont.specs.declared.fault.SealFault.the-variants.{CanaryWrong, NoSuchFile, OutputShort, PackageMisfit}
 use Rattle.aont.specs.Package.{block, body, bound, canary, canary-in, file-in, frame, frame-in, key-in, masked, message, message-in, number-block, package-length, sealed}
 use Rattle.base.specs.Sizes.{misfit}
+use Rattle.base.proofs.Lengths.{fits, fits-so}
+use Rattle.base.proofs.Refusing.{past, passes}
 use Rattle.aont.specs.Seals.{Seals, Unseals, unseal-answer, unsealed}
 use Rattle.aont.proofs.Framing.{file-in-frame, length-frame, length-message}
 use Rattle.aont.proofs.Parts.{bytes-drop, bytes-take, part-part}
@@ -26,27 +28,8 @@ use Rattle.aont.proofs.Steps.{block-at, block-end}
 use Rattle.aont.proofs.Transform.{block-masked, bound-back, bound-block, bytes-masked, length-bound, length-masked, masked-back}
 
 -- a chain of refusals that ends well has passed each test
-past : (b : Bool) (e : SealFault) (r : Result ℕ SealFault) (n : ℕ) → refuse b e r ≡ Ok n → (b ≡ false) × (r ≡ Ok n)
-past true e r n h = let z : _≡_ {A = ℕ} 0 1 = cc in absurd (omega arith)
-past false e r n h = (refl, h)
-
-passes : (b : Bool) (e : SealFault) (r : Result ℕ SealFault) → b ≡ false → refuse b e r ≡ r
-passes b e r h = ap (λ t. refuse t e r) h
-
 same-from : (xs ys : List ℕ) → not (sameBytes xs ys) ≡ false → xs ≡ ys
 same-from xs ys h = sameBytes-decides xs ys .0 (not-false (sameBytes xs ys) h)
-
--- a package's length is that of whole blocks
-pub fits : (n : ℕ) → misfit n ≡ false → (n % 16 ≡ 0) × (48 ≤ n) × (n ≤ 4128)
-fits n h =
-    let p = or-parts (not (eqb (n % 16) 0) || ltb n 48) (ltb 4128 n) h in
-    let q = or-parts (not (eqb (n % 16) 0)) (ltb n 48) (p .0) in
-    (eqb-true (n % 16) 0 (not-false (eqb (n % 16) 0) (q .0)), ltb-false n 48 (q .1), ltb-false 4128 n (p .1))
-
-pub fits-so : (n : ℕ) → n % 16 ≡ 0 → 48 ≤ n → n ≤ 4128 → misfit n ≡ false
-fits-so n a b c =
-    or-from (not (eqb (n % 16) 0) || ltb n 48) (ltb 4128 n)
-    (or-from (not (eqb (n % 16) 0)) (ltb n 48) (not-from-true (eqb (n % 16) 0) (eq-eqb (n % 16) 0 a)) (le-ltb n 48 b)) (le-ltb 4128 n c)
 
 module _ (E : List ℕ → List ℕ → List ℕ) (number : ℕ) (key file : List ℕ) (wide : length key ≡ 16) where
   -- the masked blocks

@@ -12,7 +12,8 @@ use Rattle.base.specs.Sizes.{misfit}
 use Rattle.aont.specs.Seals.{unsealed}
 use Rattle.aont.proofs.Framing.{length-message}
 use Rattle.aont.proofs.Parts.{over-next, part-part, take-add, take-size, take-upto}
-use Rattle.aont.proofs.Sealed.{fits, length-blocks, length-frame-in}
+use Rattle.base.proofs.Lengths.{fits}
+use Rattle.aont.proofs.Sealed.{length-blocks, length-frame-in}
 use Rattle.aont.proofs.Steps.{block-at}
 
 pub block-whole : (key : List ℕ) → length key ≡ 16 → block 1 key ≡ key

@@ -3,7 +3,7 @@ use Prim.Native.Nat.{_+_, _-_, _*_, _/_}
 use native.Mathlib.Omega.{arith}
 use lib.ListN.{length}
 use Rattle.aont.proofs.Named.{its-length, no-header, no-padding}
-use Rattle.aont.proofs.Sealed.{fits}
+use Rattle.base.proofs.Lengths.{fits}
 use Rattle.aont.proofs.opening.file_length.Needs as need
 
 pub returns-then-not-header-fits : need.returns-then-not-header-fits

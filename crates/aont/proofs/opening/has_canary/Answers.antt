@@ -2,7 +2,7 @@ use Prim.Native.Nat.{_-_, _/_}
 use native.Mathlib.Omega.{arith}
 use lib.ListN.{length}
 use Rattle.aont.proofs.Named.{canary-test}
-use Rattle.aont.proofs.Sealed.{fits}
+use Rattle.base.proofs.Lengths.{fits}
 use Rattle.aont.proofs.opening.has_canary.Needs as need
 
 pub returns : need.returns

@@ -3,7 +3,8 @@ use Prim.Native.Nat.{_-_, _*_, _/_}
 use native.Mathlib.Omega.{arith}
 use lib.ListN.{drop, length, take}
 use Rattle.aont.specs.Package.{bound, key-in}
-use Rattle.aont.proofs.Sealed.{fits, last-block}
+use Rattle.base.proofs.Lengths.{fits}
+use Rattle.aont.proofs.Sealed.{last-block}
 use Rattle.aont.proofs.opening.key_in.Needs as need
 
 pub block-at-requires : need.block-at-requires

@@ -4,7 +4,7 @@ use native.Mathlib.Omega.{arith}
 use lib.ListN.{length}
 use Rattle.aont.specs.Package.{message-in}
 use Rattle.aont.specs.Seals.{unsealed}
-use Rattle.aont.proofs.Sealed.{fits}
+use Rattle.base.proofs.Lengths.{fits}
 use Rattle.aont.proofs.Written.{length-unsealed, piece-all, piece-next, unsealed-part}
 use Rattle.aont.proofs.opening.write_file.Needs as need
 

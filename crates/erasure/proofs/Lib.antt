@@ -1,0 +1,4 @@
+pub mod Reading
+pub mod Spreading
+pub mod Weighing
+pub mod RecordOf

@@ -1,0 +1,3 @@
+pub mod Records
+pub mod Formula
+pub mod Slices

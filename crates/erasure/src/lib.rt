@@ -1,0 +1,11 @@
+// Slices: a package cut into records, one to a cabinet, of which any k restore it.
+mod cutting;
+pub mod fault;
+pub mod head;
+pub mod plan;
+mod records;
+
+pub use crate::cutting::{cut, cut_spread, spread};
+pub use crate::fault::{SliceCause, SliceFault};
+pub use crate::head::Head;
+pub use crate::plan::Plan;
