@@ -23,8 +23,8 @@ module _ (g : ℕ → ℕ) (ps ws : List ℕ) where
   pub mapped-all : (now : List ℕ) (j : ℕ) → j ≡ min (length ps) (length ws) → now ≡ map g (take j ps) ++ drop j ws → now ≡ over (map g (take (length ws) ps)) ws
   mapped-all now j last e =
       let same : take j ps ≡ take (length ws) ps =
-        ⊎-elim (λ h. let s : j ≡ length ws = omega arith in ap (λ n. take n ps) s)
-          (λ h. let s : length ps ≤ j = omega arith in take-all j ps s ∙ sym (take-all (length ws) ps h)) (cases-lt (length ws) (length ps)) in
+      ⊎-elim (λ h. let s : j ≡ length ws = omega arith in ap (λ n. take n ps) s)
+      (λ h. let s : length ps ≤ j = omega arith in take-all j ps s ∙ sym (take-all (length ws) ps h)) (cases-lt (length ws) (length ps)) in
       let long : j ≡ length (map g (take (length ws) ps)) = last ∙ sym (length-map (take (length ws) ps) g ∙ length-take (length ws) ps ∙ omega arith) in
       e ∙ ap (λ xs. map g xs ++ drop j ws) same ∙ ap (λ n. map g (take (length ws) ps) ++ drop n ws) long
 

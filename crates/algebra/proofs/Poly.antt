@@ -127,7 +127,7 @@ module _ (f : Ops) (L : Laws f) where
   all-zero r (b ∷ bs) h z =
       let rest = all-zero r bs (λ i. h (suc i)) (λ i. z (suc i)) in
       let own : b ≡ 0 =
-        sym (L .add-zero b (h 0)) ∙ ap (f .add b) (sym (ap (f .mul r) (rest .0) ∙ mul-zero f L r)) ∙ z 0 in
+      sym (L .add-zero b (h 0)) ∙ ap (f .add b) (sym (ap (f .mul r) (rest .0) ∙ mul-zero f L r)) ∙ z 0 in
       let each : (i : ℕ) → at (b ∷ bs) i ≡ 0 = zero-first b bs own (rest .1) in
       (z 0, each)
 
@@ -141,17 +141,17 @@ module _ (f : Ops) (L : Laws f) where
       let q = synth f r cs in
       let at-r : eval f (a ∷ cs) r ≡ 0 = roots 0 (omega arith) in
       let by : (y : ℕ) → y < f .size → eval f (a ∷ cs) y ≡ f .mul (f .sub y r) (eval f q y) =
-        λ y hy. factored r y a cs hy ∙ ap (λ n. f .add n (f .mul (f .sub y r) (eval f q y))) at-r ∙ zero-add f L _ (L .mul-code _ _) in
+      λ y hy. factored r y a cs hy ∙ ap (λ n. f .add n (f .mul (f .sub y r) (eval f q y))) at-r ∙ zero-add f L _ (L .mul-code _ _) in
       let rest : (i : ℕ) → i < k → eval f q (ps (suc i)) ≡ 0 =
-        λ i hi.
-          let c = p .code (suc i) (omega arith) in
-          no-zero-divisor f L (f .sub (ps (suc i)) r) (eval f q (ps (suc i))) (L .sub-code _ _) (eval-code q _)
-          (apart-pos (f .sub (ps (suc i)) r) (λ z. absurd (omega (arith, p .apart (suc i) 0 (omega arith) (omega arith) (sub-nonzero f L (ps (suc i)) r c (p .code 0 (omega arith)) z)))))
-          (sym (by (ps (suc i)) c) ∙ roots (suc i) (omega arith)) in
+      λ i hi.
+      let c = p .code (suc i) (omega arith) in
+      no-zero-divisor f L (f .sub (ps (suc i)) r) (eval f q (ps (suc i))) (L .sub-code _ _) (eval-code q _)
+      (apart-pos (f .sub (ps (suc i)) r) (λ z. absurd (omega (arith, p .apart (suc i) 0 (omega arith) (omega arith) (sub-nonzero f L (ps (suc i)) r c (p .code 0 (omega arith)) z)))))
+      (sym (by (ps (suc i)) c) ∙ roots (suc i) (omega arith)) in
       let later : Points f k (λ i. ps (suc i)) = record {
-          code = λ i hi. p .code (suc i) (omega arith);
-          apart = λ i j hi hj same. let t = p .apart (suc i) (suc j) (omega arith) (omega arith) same in omega arith;
-        } in
+        code = λ i hi. p .code (suc i) (omega arith);
+        apart = λ i j hi hj same. let t = p .apart (suc i) (suc j) (omega arith) (omega arith) same in omega arith;
+      } in
       let none : (i : ℕ) → at q i ≡ 0 = vanishes k q (λ i. ps (suc i)) (length-synth r cs ∙ omega arith) (codes-synth r cs) later rest in
       let tail = all-zero r cs (λ i. h (suc i)) none in
       let head : a ≡ 0 = sym (L .add-zero a (h 0)) ∙ ap (f .add a) (sym (ap (f .mul r) (tail .0) ∙ mul-zero f L r)) ∙ at-r in
@@ -182,10 +182,10 @@ module _ (f : Ops) (L : Laws f) where
       let even : length cs ≡ length ds = P .degree ∙ sym (Q .degree) in
       let long : length w ≡ k = length-plus cs (scaled f m ds) (even ∙ sym (length-scaled m ds)) ∙ P .degree in
       let roots : (i : ℕ) → i < k → eval f w (ps i) ≡ 0 =
-        λ i hi.
-          eval-plus cs (scaled f m ds) (ps i) ∙ ap (f .add (eval f cs (ps i))) (eval-scaled m ds (ps i))
-          ∙ ap (λ n. f .add n (f .mul m (eval f ds (ps i)))) (P .passes i hi ∙ sym (Q .passes i hi))
-          ∙ L .add-comm _ _ ∙ opposite (eval f ds (ps i)) (eval-code ds (ps i)) in
+      λ i hi.
+      eval-plus cs (scaled f m ds) (ps i) ∙ ap (f .add (eval f cs (ps i))) (eval-scaled m ds (ps i))
+      ∙ ap (λ n. f .add n (f .mul m (eval f ds (ps i)))) (P .passes i hi ∙ sym (Q .passes i hi))
+      ∙ L .add-comm _ _ ∙ opposite (eval f ds (ps i)) (eval-code ds (ps i)) in
       let none = vanishes k w ps long (codes-plus cs (scaled f m ds) (P .codes) (codes-scaled m ds)) p roots in
       ext-getD 0 cs ds even (λ i hi. equal (at cs i) (at ds i) (P .codes i) (Q .codes i) (sym (at-minus m cs ds even i hi) ∙ none i))
 
@@ -232,7 +232,7 @@ module _ (f : Ops) (L : Laws f) where
         long = length-linear n 0 (P .coeffs) ∙ ap suc (P .long);
         codes = codes-linear n 0 (P .coeffs) (zero-code f L) (P .codes);
         value = λ x hx. eval-linear n 0 (P .coeffs) x ∙ zero-add f L _ (L .mul-code _ _) ∙ ap (f .mul (f .add x n)) (P .value x hx)
-          ∙ ap (λ d. f .mul d (g x)) (sym (sub-is f L x q hx));
+            ∙ ap (λ d. f .mul d (g x)) (sym (sub-is f L x q hx));
       }
 
   -- the same values

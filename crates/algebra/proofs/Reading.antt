@@ -72,7 +72,7 @@ module _ (f : Ops) (O : OnCodes f) where
     mul-comm = λ a b. O .mul-comm (k a) (k b) (lt a) (lt b);
     mul-assoc = λ a b c. ap (λ n. f .mul n (k c)) (mul-k a b) ∙ O .mul-assoc (k a) (k b) (k c) (lt a) (lt b) (lt c) ∙ ap (f .mul (k a)) (sym (mul-k b c));
     mul-add = λ a b c. ap (f .mul (k a)) (add-k b c) ∙ O .mul-add (k a) (k b) (k c) (lt a) (lt b) (lt c)
-      ∙ sym (ap (λ n. f .add n (k (f .mul (k a) (k c)))) (mul-k a b) ∙ ap (f .add (f .mul (k a) (k b))) (mul-k a c));
+        ∙ sym (ap (λ n. f .add n (k (f .mul (k a) (k c)))) (mul-k a b) ∙ ap (f .add (f .mul (k a) (k b))) (mul-k a c));
     add-zero = λ a h. ap (λ n. f .add n (k 0)) (is a h) ∙ ap (f .add a) zero-k ∙ O .add-zero a h;
     mul-one = λ a h. ap (λ n. f .mul n (k 1)) (is a h) ∙ ap (f .mul a) one-k ∙ O .mul-one a h;
     sub-add = λ a b h. ap (λ n. f .add n (k b)) (is _ (O .sub-code (k a) (k b) (lt a) (lt b))) ∙ ap (λ n. f .add (f .sub n (k b)) (k b)) (is a h) ∙ O .sub-add a (k b) h (lt b);

@@ -51,9 +51,9 @@ module _ (f : Ops) (L : Laws f) where
   sum-one zero g i v hv hi e others = absurd (omega arith)
   sum-one (suc n) g i v hv hi e others =
       let here : i ≡ n → sumTo f (suc n) g ≡ v = λ s.
-        ap (f .add (sumTo f n g)) (ap g (sym s) ∙ e) ∙ ap (λ m. f .add m v) (sum-zero n g (λ j hj. others j (omega arith) (λ t. omega arith))) ∙ zero-add f L v hv in
+      ap (f .add (sumTo f n g)) (ap g (sym s) ∙ e) ∙ ap (λ m. f .add m v) (sum-zero n g (λ j hj. others j (omega arith) (λ t. omega arith))) ∙ zero-add f L v hv in
       let there : i < n → sumTo f (suc n) g ≡ v = λ l.
-        ap (f .add (sumTo f n g)) (others n (omega arith) (λ t. omega arith)) ∙ ap (λ m. f .add m 0) (sum-one n g i v hv l e (λ j hj ne. others j (omega arith) ne)) ∙ L .add-zero v hv in
+      ap (f .add (sumTo f n g)) (others n (omega arith) (λ t. omega arith)) ∙ ap (λ m. f .add m 0) (sum-one n g i v hv l e (λ j hj ne. others j (omega arith) ne)) ∙ L .add-zero v hv in
       let w : (i ≡ n) ⊎ (i < n) = eq-or-lt-of-le (omega arith) in
       elim w [ inl s ↦ here s | inr l ↦ there l ]
 
@@ -79,27 +79,27 @@ module _ (f : Ops) (L : Laws f) where
     after zero l h = absurd (omega arith)
     after (suc n) l h =
         let here : j ≡ n → Polynomial f (suc n) (weight f (suc n) ps (ps j)) = λ s.
-          poly-same f L (suc n) (weight f n ps (ps j)) (weight f (suc n) ps (ps j))
-          (λ x hx. sym (ap (f .mul (weight f n ps (ps j) x)) (factor-same f (ps j) (ps n) x (ap ps s)) ∙ L .mul-one _ (prod-code n _)))
-          (before n (omega arith)) in
+        poly-same f L (suc n) (weight f n ps (ps j)) (weight f (suc n) ps (ps j))
+        (λ x hx. sym (ap (f .mul (weight f n ps (ps j) x)) (factor-same f (ps j) (ps n) x (ap ps s)) ∙ L .mul-one _ (prod-code n _)))
+        (before n (omega arith)) in
         let there : j < n → Polynomial f (suc n) (weight f (suc n) ps (ps j)) = λ m.
-          more n n (ps j) ps (λ e. omega (arith, p .apart j n hj (omega arith) e)) (after n m (omega arith)) in
+        more n n (ps j) ps (λ e. omega (arith, p .apart j n hj (omega arith) e)) (after n m (omega arith)) in
         let w : (j ≡ n) ⊎ (j < n) = eq-or-lt-of-le (omega arith) in
         elim w [ inl s ↦ here s | inr m ↦ there m ]
 
     weight-at-own : weight f k ps (ps j) (ps j) ≡ 1
     unfolding weight
     weight-at-own = prod-one k _ (λ i hi.
-      let same : ps j ≡ ps i → factor f (ps j) (ps i) (ps j) ≡ 1 = factor-same f (ps j) (ps i) (ps j) in
-      let other : (ps j ≡ ps i → ⊥) → factor f (ps j) (ps i) (ps j) ≡ 1 = λ ne.
+        let same : ps j ≡ ps i → factor f (ps j) (ps i) (ps j) ≡ 1 = factor-same f (ps j) (ps i) (ps j) in
+        let other : (ps j ≡ ps i → ⊥) → factor f (ps j) (ps i) (ps j) ≡ 1 = λ ne.
         factor-other f (ps j) (ps i) (ps j) ne ∙ L .mul-inv _ (L .sub-code _ _) (apart-pos _ (λ z. ne (sub-nonzero f L (ps j) (ps i) (p .code j hj) (p .code i hi) z))) in
-      elim (same-or (ps j) (ps i)) [ inl e ↦ same e | inr ne ↦ other ne ])
+        elim (same-or (ps j) (ps i)) [ inl e ↦ same e | inr ne ↦ other ne ])
 
     weight-at-other : (i : ℕ) → i < k → (i ≡ j → ⊥) → weight f k ps (ps j) (ps i) ≡ 0
     unfolding weight
     weight-at-other i hi ne = prod-zero k _ i hi
-      (factor-other f (ps j) (ps i) (ps i) (λ e. ne (sym (p .apart j i hj hi e)))
-      ∙ ap (λ m. f .mul m (f .inv (f .sub (ps j) (ps i)))) (sub-self f L (ps i) (p .code i hi)) ∙ zero-mul f L _)
+        (factor-other f (ps j) (ps i) (ps i) (λ e. ne (sym (p .apart j i hj hi e)))
+        ∙ ap (λ m. f .mul m (f .inv (f .sub (ps j) (ps i)))) (sub-self f L (ps i) (p .code i hi)) ∙ zero-mul f L _)
 
   module _ (k : ℕ) (ps : ℕ → ℕ) (p : Points f k ps) (vs : ℕ → ℕ) where
     -- existence: the formula is a polynomial of degree below k ..
@@ -113,8 +113,8 @@ module _ (f : Ops) (L : Laws f) where
     -- .. that has the values at the points
     formula-at : (i : ℕ) → i < k → vs i < f .size → lagrange f k ps vs (ps i) ≡ vs i
     formula-at i hi hv = sum-one k _ i (vs i) hv hi
-      (ap (f .mul (vs i)) (weight-at-own k ps p i hi) ∙ L .mul-one (vs i) hv)
-      (λ j hj ne. ap (f .mul (vs j)) (weight-at-other k ps p j hj i hi ne) ∙ mul-zero f L (vs j))
+        (ap (f .mul (vs i)) (weight-at-own k ps p i hi) ∙ L .mul-one (vs i) hv)
+        (λ j hj ne. ap (f .mul (vs j)) (weight-at-other k ps p j hj i hi ne) ∙ mul-zero f L (vs j))
 
     through : ((i : ℕ) → i < k → vs i < f .size) → Through f k ps vs (formula-polynomial .coeffs)
     through h = record {

@@ -4,13 +4,16 @@ ghost use lib.ListN.{length};
 ghost use Rattle.base.specs.Bytes.{over};
 ghost use Rattle.algebra.specs.Fields.{Ops, Laws, Widths};
 ghost use Rattle.algebra.specs.Slices.{combined-at, combined};
-use base::{le_at, put_le};
+use base::le_at;
+use base::put_le;
 
 // A field over codes, the whole numbers below its size. Each operation answers a code, and reads an argument that is
 // not below the size as 0. W data bytes make one symbol, V bytes store one code, and NUMBER stands in what is stored.
 pub trait Field {
     const W: usize;
+
     const V: usize;
+
     const NUMBER: u16;
 
     // the size and the four operations, as functions on numbers
@@ -59,7 +62,10 @@ pub trait Field {
         let mut sum = 0;
         for i in 0..weights.len() {
             let begin = i.saturating_mul(stride).saturating_add(place);
-            sum = Self::add(sum, Self::mul(le_at(sources, begin, Self::stored_width()), weights[i]));
+            sum = Self::add(
+                sum,
+                Self::mul(le_at(sources, begin, Self::stored_width()), weights[i]),
+            );
         }
         sum
     }
@@ -72,7 +78,12 @@ pub trait Field {
         let width = Self::stored_width();
         for j in 0..out.len() / width {
             let place = j * width;
-            put_le(out, place, width, Self::combine_at(weights, sources, stride, place));
+            put_le(
+                out,
+                place,
+                width,
+                Self::combine_at(weights, sources, stride, place),
+            );
         }
     }
 }

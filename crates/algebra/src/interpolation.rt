@@ -54,7 +54,10 @@ pub fn interpolate<F: Field>(points: &[u32], values: &[u32], x: u32) -> u32
 {
     let mut sum = 0;
     for j in 0..points.len() {
-        sum = F::add(sum, F::mul(value_at(values, j), weight::<F>(points, points[j], x)));
+        sum = F::add(
+            sum,
+            F::mul(value_at(values, j), weight::<F>(points, points[j], x)),
+        );
     }
     sum
 }
@@ -62,5 +65,4 @@ pub fn interpolate<F: Field>(points: &[u32], values: &[u32], x: u32) -> u32
 // That k values at k differing codes are those of one polynomial of degree below k, and of one only.
 pub fn one_polynomial<F: Field>()
     ensures { λ _. ⌜ OnePolynomial ops ⌝ }
-{
-}
+{}

@@ -50,8 +50,8 @@ module _ (g : ℕ → List ℕ) (v : ℕ) (wide : (j : ℕ) → length (g j) ≡
       let long = length-pieces j in
       let end : j * v + length bs ≡ (j + 1) * v = ap (λ m. j * v + m) (ap length eb ∙ wide j ∙ sym (one-mul v)) ∙ sym (add-mul j 1 v) in
       let back : drop (j * v + length bs) now ≡ drop ((j + 1) * v) was =
-        ap (λ xs. drop (j * v + length bs) xs) e ∙ sym (drop-drop (length bs) (j * v) (front ++ drop (j * v) was))
-        ∙ ap (drop (length bs)) (drop-at front (drop (j * v) was) (j * v) long) ∙ drop-drop (length bs) (j * v) was ∙ ap (λ m. drop m was) end in
+      ap (λ xs. drop (j * v + length bs) xs) e ∙ sym (drop-drop (length bs) (j * v) (front ++ drop (j * v) was))
+      ∙ ap (drop (length bs)) (drop-at front (drop (j * v) was) (j * v) long) ∙ drop-drop (length bs) (j * v) was ∙ ap (λ m. drop m was) end in
       ap (λ xs. xs ++ (bs ++ drop (j * v + length bs) now)) (ap (take (j * v)) e ∙ take-at front (drop (j * v) was) (j * v) long)
       ∙ ap (λ xs. front ++ (bs ++ xs)) back ∙ ap (λ xs. front ++ (xs ++ drop ((j + 1) * v) was)) eb
       ∙ sym (append-assoc front (g j) (drop ((j + 1) * v) was)) ∙ ap (λ xs. xs ++ drop ((j + 1) * v) was) (sym (pieces-more j))
@@ -66,20 +66,20 @@ module _ (g : ℕ → List ℕ) (v : ℕ) (wide : (j : ℕ) → length (g j) ≡
   piece-at (suc n) j rest h =
       let front = joined g (counting 0 n) in
       let split : joined g (counting 0 (suc n)) ++ rest ≡ front ++ (g n ++ rest) =
-        ap (λ m. joined g (counting 0 m) ++ rest) (sym (add-one n)) ∙ ap (λ xs. xs ++ rest) (pieces-more n) ∙ append-assoc front (g n) rest in
+      ap (λ m. joined g (counting 0 m) ++ rest) (sym (add-one n)) ∙ ap (λ xs. xs ++ rest) (pieces-more n) ∙ append-assoc front (g n) rest in
       ap (λ xs. part xs (j * v) v) split
       ∙ ⊎-elim (λ l. piece-at n j (g n ++ rest) l)
-        (λ l.
-          let same : n ≡ j = omega arith in
-          let long : length front ≡ j * v = length-pieces n ∙ ap (λ m. m * v) same in
-          ap (take v) (drop-at front (g n ++ rest) (j * v) long) ∙ take-at (g n) rest v (wide n) ∙ ap g same) (cases-lt j n)
+      (λ l.
+      let same : n ≡ j = omega arith in
+      let long : length front ≡ j * v = length-pieces n ∙ ap (λ m. m * v) same in
+      ap (take v) (drop-at front (g n ++ rest) (j * v) long) ∙ take-at (g n) rest v (wide n) ∙ ap g same) (cases-lt j n)
 
 -- pieces that are the same below n are the same together
 pub pieces-same : (g h : ℕ → List ℕ) (n : ℕ) → ((j : ℕ) → j < n → g j ≡ h j) → joined g (counting 0 n) ≡ joined h (counting 0 n)
 pieces-same g h zero e = refl
 pieces-same g h (suc n) e =
     let step : (f : ℕ → List ℕ) → joined f (counting 0 (suc n)) ≡ joined f (counting 0 n) ++ f n =
-      λ f. ap (λ m. joined f (counting 0 m)) (sym (add-one n)) ∙ ap (joined f) (counting-more 0 n ∙ ap (λ m. counting 0 n ++ m ∷ []) (zero-add n)) ∙ sym (joined-more f [] (counting 0 n) n) in
+    λ f. ap (λ m. joined f (counting 0 m)) (sym (add-one n)) ∙ ap (joined f) (counting-more 0 n ∙ ap (λ m. counting 0 n ++ m ∷ []) (zero-add n)) ∙ sym (joined-more f [] (counting 0 n) n) in
     step g ∙ ap (λ xs. xs ++ g n) (pieces-same g h n (λ j l. e j (omega arith))) ∙ ap (λ xs. joined h (counting 0 n) ++ xs) (e n (omega arith)) ∙ sym (step h)
 
 -- a part of a part

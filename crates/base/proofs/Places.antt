@@ -63,6 +63,6 @@ written-more out bs at i x n h =
 pub part-saturated : (bs : List ℕ) (a b n width : ℕ) → length bs ≤ n → part bs (min (min a n + b) n) width ≡ part bs (a + b) width
 part-saturated bs a b n width h = ⊎-elim (λ l. let e : min (min a n + b) n ≡ a + b = omega arith in ap (λ m. part bs m width) e)
     (λ l.
-      let low : length bs ≤ min (min a n + b) n = omega arith in
-      let high : length bs ≤ a + b = omega arith in
-      ap (take width) (drop-all (min (min a n + b) n) bs low ∙ sym (drop-all (a + b) bs high))) (cases-lt (a + b) n)
+    let low : length bs ≤ min (min a n + b) n = omega arith in
+    let high : length bs ≤ a + b = omega arith in
+    ap (take width) (drop-all (min (min a n + b) n) bs low ∙ sym (drop-all (a + b) bs high))) (cases-lt (a + b) n)

@@ -34,7 +34,11 @@ pub fn byte_at(bytes: &[u8], at: usize) -> u8
 fn byte_of_part(bytes: &[u8], at: usize, width: usize, i: usize) -> u8
     ensures { λ r. ⌜ r ≡ getD (part (now (bytes .entry)) at width) i 0 ⌝ }
 {
-    if i < width { byte_at(bytes, at.saturating_add(i)) } else { 0 }
+    if i < width {
+        byte_at(bytes, at.saturating_add(i))
+    } else {
+        0
+    }
 }
 
 // The little-endian number in the two bytes at a place; a byte past the end counts as 0.

@@ -35,8 +35,8 @@ module _ (n modulus : ℕ) (B : Basis n modulus) where
       span n (λ a. m a b < 2 ^ n) (subst (λ x. x < 2 ^ n) (sym (left-zero b)) (pow-pos n))
       (λ a c ih jh. subst (λ x. x < 2 ^ n) (sym (left a c b)) (xor-lt n (m a b) (m c b) ih jh))
       (λ i hi. span n (λ b. m (2 ^ i) b < 2 ^ n) (subst (λ x. x < 2 ^ n) (sym (right-zero (2 ^ i))) (pow-pos n))
-        (λ b c ih jh. subst (λ x. x < 2 ^ n) (sym (right (2 ^ i) b c)) (xor-lt n (m (2 ^ i) b) (m (2 ^ i) c) ih jh))
-        (λ j hj. B .low i j hi hj) b hb)
+      (λ b c ih jh. subst (λ x. x < 2 ^ n) (sym (right (2 ^ i) b c)) (xor-lt n (m (2 ^ i) b) (m (2 ^ i) c) ih jh))
+      (λ j hj. B .low i j hi hj) b hb)
       a ha
 
   pub product-comm : (a b : ℕ) → a < 2 ^ n → b < 2 ^ n → m a b ≡ m b a
@@ -44,8 +44,8 @@ module _ (n modulus : ℕ) (B : Basis n modulus) where
       span n (λ a. m a b ≡ m b a) (left-zero b ∙ sym (right-zero b))
       (λ a c ih jh. left a c b ∙ ap (λ x. bitXor x (m c b)) ih ∙ ap (bitXor (m b a)) jh ∙ sym (right b a c))
       (λ i hi. span n (λ b. m (2 ^ i) b ≡ m b (2 ^ i)) (right-zero (2 ^ i) ∙ sym (left-zero (2 ^ i)))
-        (λ b c ih jh. right (2 ^ i) b c ∙ ap (λ x. bitXor x (m (2 ^ i) c)) ih ∙ ap (bitXor (m b (2 ^ i))) jh ∙ sym (left b c (2 ^ i)))
-        (λ j hj. B .comm i j hi hj) b hb)
+      (λ b c ih jh. right (2 ^ i) b c ∙ ap (λ x. bitXor x (m (2 ^ i) c)) ih ∙ ap (bitXor (m b (2 ^ i))) jh ∙ sym (left b c (2 ^ i)))
+      (λ j hj. B .comm i j hi hj) b hb)
       a ha
 
   pub product-one : (a : ℕ) → a < 2 ^ n → m a 1 ≡ a
@@ -59,13 +59,13 @@ module _ (n modulus : ℕ) (B : Basis n modulus) where
       span n (λ a. m (m a b) c ≡ m a (m b c)) (ap (λ x. m x c) (left-zero b) ∙ left-zero c ∙ sym (left-zero (m b c)))
       (λ a d ih jh. ap (λ x. m x c) (left a d b) ∙ left (m a b) (m d b) c ∙ ap (λ x. bitXor x (m (m d b) c)) ih ∙ ap (bitXor (m a (m b c))) jh ∙ sym (left a d (m b c)))
       (λ i hi. span n (λ b. m (m (2 ^ i) b) c ≡ m (2 ^ i) (m b c))
-        (ap (λ x. m x c) (right-zero (2 ^ i)) ∙ left-zero c ∙ sym (ap (m (2 ^ i)) (left-zero c) ∙ right-zero (2 ^ i)))
-        (λ b d ih jh. ap (λ x. m x c) (right (2 ^ i) b d) ∙ left (m (2 ^ i) b) (m (2 ^ i) d) c ∙ ap (λ x. bitXor x (m (m (2 ^ i) d) c)) ih ∙ ap (bitXor (m (2 ^ i) (m b c))) jh
-          ∙ sym (ap (m (2 ^ i)) (left b d c) ∙ right (2 ^ i) (m b c) (m d c)))
-        (λ j hj. span n (λ c. m (m (2 ^ i) (2 ^ j)) c ≡ m (2 ^ i) (m (2 ^ j) c))
-          (right-zero (m (2 ^ i) (2 ^ j)) ∙ sym (ap (m (2 ^ i)) (right-zero (2 ^ j)) ∙ right-zero (2 ^ i)))
-          (λ c d ih jh. right (m (2 ^ i) (2 ^ j)) c d ∙ ap (λ x. bitXor x (m (m (2 ^ i) (2 ^ j)) d)) ih ∙ ap (bitXor (m (2 ^ i) (m (2 ^ j) c))) jh
-            ∙ sym (ap (m (2 ^ i)) (right (2 ^ j) c d) ∙ right (2 ^ i) (m (2 ^ j) c) (m (2 ^ j) d)))
-          (λ k hk. B .assoc i j k hi hj hk) c hc)
-        b hb)
+      (ap (λ x. m x c) (right-zero (2 ^ i)) ∙ left-zero c ∙ sym (ap (m (2 ^ i)) (left-zero c) ∙ right-zero (2 ^ i)))
+      (λ b d ih jh. ap (λ x. m x c) (right (2 ^ i) b d) ∙ left (m (2 ^ i) b) (m (2 ^ i) d) c ∙ ap (λ x. bitXor x (m (m (2 ^ i) d) c)) ih ∙ ap (bitXor (m (2 ^ i) (m b c))) jh
+      ∙ sym (ap (m (2 ^ i)) (left b d c) ∙ right (2 ^ i) (m b c) (m d c)))
+      (λ j hj. span n (λ c. m (m (2 ^ i) (2 ^ j)) c ≡ m (2 ^ i) (m (2 ^ j) c))
+      (right-zero (m (2 ^ i) (2 ^ j)) ∙ sym (ap (m (2 ^ i)) (right-zero (2 ^ j)) ∙ right-zero (2 ^ i)))
+      (λ c d ih jh. right (m (2 ^ i) (2 ^ j)) c d ∙ ap (λ x. bitXor x (m (m (2 ^ i) (2 ^ j)) d)) ih ∙ ap (bitXor (m (2 ^ i) (m (2 ^ j) c))) jh
+      ∙ sym (ap (m (2 ^ i)) (right (2 ^ j) c d) ∙ right (2 ^ i) (m (2 ^ j) c) (m (2 ^ j) d)))
+      (λ k hk. B .assoc i j k hi hj hk) c hc)
+      b hb)
       a ha

@@ -63,7 +63,6 @@ module _ (n modulus : ℕ) (cs : List ℕ) where
     fixed = λ i hi. eqb→eq _ _ (below-at n fixed (t .fixeds) i hi);
   }
 
-
 undone : (a b : ℕ) → bitXor (bitXor a b) b ≡ a
 undone a b = xor-assoc a b b ∙ ap (bitXor a) (xor-self b) ∙ xor-zero-r a
 
@@ -93,8 +92,8 @@ module _ (n modulus : ℕ) (cs : List ℕ) (large : 1 < n) (t : Passed n modulus
   -- an inverse is the inverse
   pub only-inverse : (a b : ℕ) → a < 2 ^ n → b < 2 ^ n → m a b ≡ 1 → inverse (2 ^ n) m a ≡ b
   only-inverse a b ha hb e = inverse-is (2 ^ n) m a b hb e (λ c hc ec.
-    sym (product-one n modulus basis c hc) ∙ ap (m c) (sym e) ∙ sym (product-assoc n modulus basis c a b hc ha hb)
-    ∙ ap (λ x. m x b) (product-comm n modulus basis c a hc ha ∙ ec) ∙ product-comm n modulus basis 1 b one-code hb ∙ product-one n modulus basis b hb)
+      sym (product-one n modulus basis c hc) ∙ ap (m c) (sym e) ∙ sym (product-assoc n modulus basis c a b hc ha hb)
+      ∙ ap (λ x. m x b) (product-comm n modulus basis c a hc ha ∙ ec) ∙ product-comm n modulus basis 1 b one-code hb ∙ product-one n modulus basis b hb)
 
   pub no-inverse : inverse (2 ^ n) m 0 ≡ 0
   no-inverse = none

@@ -84,11 +84,11 @@ module _ (n modulus : ℕ) (cs : List ℕ) (B : Basis n modulus) (S : Squares n 
   -- n squarings give the code back
   frob-round : (a : ℕ) → Code a → frob n modulus n a ≡ a
   frob-round a h = span n (λ a. Code a × (frob n modulus n a ≡ a)) (pow-pos n, frob-zero n)
-    (λ a b p q. (xor-lt n a b (p .0) (q .0), frob-xor n a b (p .0) (q .0) ∙ ap (λ x. bitXor x (frob n modulus n b)) (p .1) ∙ ap (bitXor a) (q .1)))
-    (λ i hi. (pow-lt-at i hi, S .round i hi)) a h .1
-   where
-    pow-lt-at : (i : ℕ) → i < n → 2 ^ i < 2 ^ n
-    pow-lt-at i hi = pow-lt hi
+      (λ a b p q. (xor-lt n a b (p .0) (q .0), frob-xor n a b (p .0) (q .0) ∙ ap (λ x. bitXor x (frob n modulus n b)) (p .1) ∙ ap (bitXor a) (q .1)))
+      (λ i hi. (pow-lt-at i hi, S .round i hi)) a h .1
+    where
+      pow-lt-at : (i : ℕ) → i < n → 2 ^ i < 2 ^ n
+      pow-lt-at i hi = pow-lt hi
 
   one-lt : Code 1
   one-lt = let h : 0 < n = omega (arith, S .bits) in pow-lt {i = 0} h
@@ -112,24 +112,26 @@ module _ (n modulus : ℕ) (cs : List ℕ) (B : Basis n modulus) (S : Squares n 
   -- a code that is its own square is 0 or 1
   fixed-all : (a : ℕ) → Code a → bitXor (apply cs (bitXor (m a a) a)) a ≡ a % 2
   fixed-all a h = span n (λ a. Code a × (bitXor (apply cs (bitXor (m a a) a)) a ≡ a % 2))
-    (pow-pos n, ap (λ x. bitXor (apply cs (bitXor x 0)) 0) (zero-product n modulus 0) ∙ xor-zero-r _ ∙ apply-zero)
-    (λ a b p q. (xor-lt n a b (p .0) (q .0),
-      ap (λ x. bitXor (apply cs (bitXor x (bitXor a b))) (bitXor a b)) (sq-xor a b (p .0) (q .0))
-      ∙ ap (λ x. bitXor (apply cs x) (bitXor a b)) (swapped (m a a) (m b b) a b)
-      ∙ ap (λ x. bitXor x (bitXor a b)) (apply-xor cs (bitXor (m a a) a) (bitXor (m b b) b))
-      ∙ swapped (apply cs (bitXor (m a a) a)) (apply cs (bitXor (m b b) b)) a b
-      ∙ ap (λ x. bitXor x (bitXor (apply cs (bitXor (m b b) b)) b)) (p .1) ∙ ap (bitXor (a % 2)) (q .1) ∙ sym (xor-mod a b 1)))
-    (λ i hi. (pow-lt hi, S .fixed i hi)) a h .1
-   where
-    apply-zero : apply cs 0 ≡ 0
-    apply-zero = apply-xor cs 0 0 ∙ xor-self (apply cs 0)
+      (pow-pos n, ap (λ x. bitXor (apply cs (bitXor x 0)) 0) (zero-product n modulus 0) ∙ xor-zero-r _ ∙ apply-zero)
+      (λ a b p q. (
+        xor-lt n a b (p .0) (q .0),
+        ap (λ x. bitXor (apply cs (bitXor x (bitXor a b))) (bitXor a b)) (sq-xor a b (p .0) (q .0))
+            ∙ ap (λ x. bitXor (apply cs x) (bitXor a b)) (swapped (m a a) (m b b) a b)
+            ∙ ap (λ x. bitXor x (bitXor a b)) (apply-xor cs (bitXor (m a a) a) (bitXor (m b b) b))
+            ∙ swapped (apply cs (bitXor (m a a) a)) (apply cs (bitXor (m b b) b)) a b
+            ∙ ap (λ x. bitXor x (bitXor (apply cs (bitXor (m b b) b)) b)) (p .1) ∙ ap (bitXor (a % 2)) (q .1) ∙ sym (xor-mod a b 1),
+      ))
+      (λ i hi. (pow-lt hi, S .fixed i hi)) a h .1
+    where
+      apply-zero : apply cs 0 ≡ 0
+      apply-zero = apply-xor cs 0 0 ∙ xor-self (apply cs 0)
 
   idempotent : (e : ℕ) → Code e → m e e ≡ e → e ≡ e % 2
   idempotent e h s =
       sym (ap (λ x. bitXor x e) (ap (λ x. apply cs (bitXor x e)) s ∙ ap (apply cs) (xor-self e) ∙ apply-none) ∙ xor-zero-l e) ∙ fixed-all e h
-   where
-    apply-none : apply cs 0 ≡ 0
-    apply-none = apply-xor cs 0 0 ∙ xor-self (apply cs 0)
+    where
+      apply-none : apply cs 0 ≡ 0
+      apply-none = apply-xor cs 0 0 ∙ xor-self (apply cs 0)
 
   pub tower-inverse : (a : ℕ) → Code a → 0 < a → m a (tower n modulus (pred n) a) ≡ 1
   tower-inverse a h pos =

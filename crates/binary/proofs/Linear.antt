@@ -76,7 +76,7 @@ remainder-xor n modulus (suc j) a b =
     let v = modulus * 2 ^ j in
     let bit : bitXor a b / 2 ^ k % 2 ≡ bitXor (a / 2 ^ k % 2) (b / 2 ^ k % 2) = ap (λ m. m % 2) (xor-shr a b k) ∙ xor-mod (a / 2 ^ k) (b / 2 ^ k) 1 in
     let taken : sel (bitXor a b / 2 ^ k % 2) v ≡ bitXor (sel (a / 2 ^ k % 2) v) (sel (b / 2 ^ k % 2) v) =
-      ap (λ m. sel m v) bit ∙ sel-xor (a / 2 ^ k % 2) (b / 2 ^ k % 2) v (mod-two _) (mod-two _) in
+    ap (λ m. sel m v) bit ∙ sel-xor (a / 2 ^ k % 2) (b / 2 ^ k % 2) v (mod-two _) (mod-two _) in
     ap (remainder n modulus j) (ap (bitXor (bitXor a b)) taken ∙ swapped a b (sel (a / 2 ^ k % 2) v) (sel (b / 2 ^ k % 2) v))
     ∙ remainder-xor n modulus j (bitXor a (sel (a / 2 ^ k % 2) v)) (bitXor b (sel (b / 2 ^ k % 2) v))
 

@@ -47,14 +47,14 @@ xor-swap a b = sixteen-same _ _ (λ k l. xor-comm (getD a k 0) (getD b k 0))
 pub xor-regroup : (a b c : List ℕ) → xor (xor a b) c ≡ xor a (xor b c)
 xor-regroup a b c = block-is-sixteen (xor (xor a b) c) (length-xor (xor a b) c)
     ∙ sixteen-same _ _ (λ k l.
-        xor-at (xor a b) c k l ∙ ap (λ n. bitXor n (getD c k 0)) (xor-at a b k l) ∙ xor-assoc (getD a k 0) (getD b k 0) (getD c k 0)
-        ∙ sym (xor-at a (xor b c) k l ∙ ap (bitXor (getD a k 0)) (xor-at b c k l)))
+    xor-at (xor a b) c k l ∙ ap (λ n. bitXor n (getD c k 0)) (xor-at a b k l) ∙ xor-assoc (getD a k 0) (getD b k 0) (getD c k 0)
+    ∙ sym (xor-at a (xor b c) k l ∙ ap (bitXor (getD a k 0)) (xor-at b c k l)))
     ∙ sym (block-is-sixteen (xor a (xor b c)) (length-xor a (xor b c)))
 
 -- a ⊕ b ⊕ b is a
 pub xor-back : (a b : List ℕ) → length a ≡ 16 → xor (xor a b) b ≡ a
 xor-back a b h = block-is-sixteen (xor (xor a b) b) (length-xor (xor a b) b)
     ∙ sixteen-same _ _ (λ k l.
-        xor-at (xor a b) b k l ∙ ap (λ n. bitXor n (getD b k 0)) (xor-at a b k l)
-        ∙ xor-assoc (getD a k 0) (getD b k 0) (getD b k 0) ∙ ap (bitXor (getD a k 0)) (xor-self (getD b k 0)) ∙ xor-zero-r (getD a k 0))
+    xor-at (xor a b) b k l ∙ ap (λ n. bitXor n (getD b k 0)) (xor-at a b k l)
+    ∙ xor-assoc (getD a k 0) (getD b k 0) (getD b k 0) ∙ ap (bitXor (getD a k 0)) (xor-self (getD b k 0)) ∙ xor-zero-r (getD a k 0))
     ∙ sym (block-is-sixteen a h)

@@ -22,12 +22,21 @@ fn row(rt: &LibcRuntime, action: &str, what: &str, bytes: usize) -> Result<(), A
 }
 
 // Unseals a package and says what came of it: the file again, another one, or a refusal.
-fn try_unseal<C: Cipher>(rt: &LibcRuntime, what: &str, package: &[u8], file: &[u8]) -> Result<(), AnyError> {
+fn try_unseal<C: Cipher>(
+    rt: &LibcRuntime,
+    what: &str,
+    package: &[u8],
+    file: &[u8],
+) -> Result<(), AnyError> {
     let mut out = vec![in rt.alloc(); 0u8; MOST]?;
     match unseal::<C>(package, out.as_mut_slice()) {
         Ok(n) => {
             let same = n <= out.len() && &out.as_slice()[0..n] == file;
-            let verdict = if same { "the bay map again" } else { "ANOTHER FILE" };
+            let verdict = if same {
+                "the bay map again"
+            } else {
+                "ANOTHER FILE"
+            };
             println!(rt, "  unseal  {what:<46} {n:>5} bytes: {verdict}")?;
         }
         Err(fault) => println!(rt, "  unseal  {what:<46} {fault}")?,
@@ -48,9 +57,19 @@ fn show<C: Cipher>(rt: &LibcRuntime, name: &str, file: &[u8]) -> Result<(), AnyE
     try_unseal::<C>(rt, "the whole package", package.as_slice(), file)?;
     let n = package.len();
     if n > 16 {
-        try_unseal::<C>(rt, "without its last block", &package.as_slice()[0..n - 16], file)?;
+        try_unseal::<C>(
+            rt,
+            "without its last block",
+            &package.as_slice()[0..n - 16],
+            file,
+        )?;
         package[7] = package[7] ^ 1;
-        try_unseal::<C>(rt, "with one bit of byte 7 turned", package.as_slice(), file)?;
+        try_unseal::<C>(
+            rt,
+            "with one bit of byte 7 turned",
+            package.as_slice(),
+            file,
+        )?;
     }
     Ok(())
 }
@@ -58,7 +77,12 @@ fn show<C: Cipher>(rt: &LibcRuntime, name: &str, file: &[u8]) -> Result<(), AnyE
 fn run(rt: &LibcRuntime) -> Result<(), AnyError> {
     let map = fs::read(rt, "bay-map.txt")?;
     println!(rt, "Bay map")?;
-    row(rt, "read", "bay-map.txt, which sensor is in which bay", map.len())?;
+    row(
+        rt,
+        "read",
+        "bay-map.txt, which sensor is in which bay",
+        map.len(),
+    )?;
     show::<Aes128Cipher>(rt, "AES-128", map.as_slice())?;
     show::<Speck128Cipher>(rt, "Speck128/128", map.as_slice())
 }

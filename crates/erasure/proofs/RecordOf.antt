@@ -66,7 +66,7 @@ module _ (C : Coding) (L : Laws (C .ops)) (W : Widths (C .ops) (C .width) (C .st
       let room : j * v + v ≤ n = omega (arith, add-mul j 1 v, one-mul v, mul-le-mul-right v hj) in
       let code : column C pkg j i < 256 ^ v = lt-of-lt-of-le (symbol-code pkg (j * C .needed + i) bytes) (W .holds) in
       ap le-value (sym (part-part bs (i * n) (j * v) n v room) ∙ ap (λ xs. part xs (j * v) v) (piece-at (slice-of C pkg m) n wide (C .needed) i rest hi ∙ sym (append-nil (slice-of C pkg m i)))
-        ∙ stored-place own v m j [] hj)
+      ∙ stored-place own v m j [] hj)
       ∙ le-value-le-bytes v (column C pkg j i) code
 
   weights-at : (c i : ℕ) → i < C .needed → at (weights-for C c) i ≡ weight (C .ops) (C .needed) (λ i. i) i c
@@ -87,14 +87,14 @@ module _ (C : Coding) (L : Laws (C .ops)) (W : Widths (C .ops) (C .width) (C .st
       let n = columns C (length pkg) * C .stored in
       ap (λ k. sumTo f k (λ i. f .mul (stored-at (C .stored) bs (i * n + j * C .stored)) (at (weights-for C c) i))) (count-weights c)
       ∙ sum-same f L (C .needed) _ _ (λ i hi.
-        ap (λ x. f .mul x (at (weights-for C c) i)) (spread-at pkg rest i j bytes hi hj) ∙ ap (f .mul (column C pkg j i)) (weights-at c i hi))
+      ap (λ x. f .mul x (at (weights-for C c) i)) (spread-at pkg rest i j bytes hi hj) ∙ ap (f .mul (column C pkg j i)) (weights-at c i hi))
 
   pub record-is : (pkg rest : List ℕ) (bytes c issue : ℕ) → Bytes pkg → bytes ≡ length pkg → record-from C bytes (spread C pkg ++ rest) c issue ≡ record-of C pkg c issue
   unfolding record-from record-of record-with combined
   record-is pkg rest bytes c issue h e =
       ap (λ n. record-from C n (spread C pkg ++ rest) c issue) e
       ∙ ap (λ xs. head (record-length C (length pkg)) (C .number) issue ++ xs)
-        (pieces-same _ _ (columns C (length pkg)) (λ j hj. ap (le-bytes (C .stored)) (combined-symbol pkg rest c j h hj)))
+      (pieces-same _ _ (columns C (length pkg)) (λ j hj. ap (le-bytes (C .stored)) (combined-symbol pkg rest c j h hj)))
 
   -- the formula's record is the cabinet's, in a polynomial's words
   pub is-record : (pkg : List ℕ) (c issue : ℕ) → Bytes pkg → C .needed ≤ 16 → c < 16 → IsRecord C pkg c issue (record-of C pkg c issue)

@@ -30,11 +30,11 @@ module _ (C : Coding) (pkg : List ℕ) where
       let whole : (i + 1) * size - i * size ≡ size = omega (arith, add-mul i 1 size, one-mul size) in
       let part = take ((i + 1) * size - i * size) (drop (i * size) now) in
       let part-long : length part ≡ size =
-        ap (λ n. length (take n (drop (i * size) now))) whole ∙ length-take-le size (drop (i * size) now) (rw length-drop (omega (arith, add-mul i 1 size, one-mul size))) in
+      ap (λ n. length (take n (drop (i * size) now))) whole ∙ length-take-le size (drop (i * size) now) (rw length-drop (omega (arith, add-mul i 1 size, one-mul size))) in
       let count : length part / C .stored ≡ all = ap (λ n. n / C .stored) (part-long ∙ es) ∙ mul-div-cancel all pos in
       let slice : out ≡ slice-of C pkg all i =
-        eo ∙ ap (λ n. over (slice-of C pkg n i) part) count
-        ∙ over-whole (slice-of C pkg all i) part (omega (arith, part-long, es, length-slice all i)) in
+      eo ∙ ap (λ n. over (slice-of C pkg n i) part) count
+      ∙ over-whole (slice-of C pkg all i) part (omega (arith, part-long, es, length-slice all i)) in
       let wide : (j : ℕ) → length (slice-of C pkg all j) ≡ size = λ j. length-slice all j ∙ sym es in
       put-part now out (i * size) ((i + 1) * size - i * size) (ap length slice ∙ wide i ∙ sym whole)
       ∙ put-piece (slice-of C pkg all) size wide was now out i e slice

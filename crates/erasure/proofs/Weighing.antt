@@ -39,12 +39,12 @@ module _ (C : Coding) (L : Laws (C .ops)) (c : ℕ) where
       let ws = weights-for C c in
       let point : (i : ℕ) → i < k → at (counting 0 k) i ≡ i = λ i h. getD-counting 0 k i 0 h ∙ zero-add i in
       let each : map (λ p. weight (C .ops) (length (counting 0 k)) (at (counting 0 k)) p c) (take (length part) (counting 0 k)) ≡ ws =
-        ap (λ xs. map (λ p. weight (C .ops) (length (counting 0 k)) (at (counting 0 k)) p c) xs)
-          (ap (λ n. take n (counting 0 k)) long ∙ take-all k (counting 0 k) (omega (arith, length-counting 0 k)))
-        ∙ same-map _ _ k (λ p. ap (λ n. weight (C .ops) n (at (counting 0 k)) p c) (length-counting 0 k) ∙ weight-same (C .ops) L k (at (counting 0 k)) (λ i. i) p c point) in
+      ap (λ xs. map (λ p. weight (C .ops) (length (counting 0 k)) (at (counting 0 k)) p c) xs)
+      (ap (λ n. take n (counting 0 k)) long ∙ take-all k (counting 0 k) (omega (arith, length-counting 0 k)))
+      ∙ same-map _ _ k (λ p. ap (λ n. weight (C .ops) n (at (counting 0 k)) p c) (length-counting 0 k) ∙ weight-same (C .ops) L k (at (counting 0 k)) (λ i. i) p c point) in
       let count : length ws ≡ k = length-map-counting (λ p. weight (C .ops) k (λ i. i) p c) 0 k in
       let whole : last ≡ ws =
-        e ∙ ap (λ ps. weights-by ps part) (front-counting 16 k few) ∙ ap (λ xs. over xs part) each ∙ over-whole ws part (omega (arith, count, long)) in
+      e ∙ ap (λ ps. weights-by ps part) (front-counting 16 k few) ∙ ap (λ xs. over xs part) each ∙ over-whole ws part (omega (arith, count, long)) in
       ap (λ xs. take k (xs ++ rest)) whole ∙ take-at ws rest k count
 
 -- a head of six bytes, and then a body over all the rest of an output
@@ -68,7 +68,7 @@ rest-length front out n ef eo =
 -- what combine leaves in it, by the code's own names of the weights and the width
 pub body-is : (f : Ops) (v : ℕ) (ws own slices front out body : List ℕ) (m width : ℕ) → 0 < v → width ≡ v → own ≡ ws → length front ≡ 6 → length out ≡ 6 + m * v →
     body ≡ over (combined f v own slices (m * width) (length (take (length (front ++ postOf 0 6 out) - 6) (drop 6 (front ++ postOf 0 6 out))) / v))
-      (take (length (front ++ postOf 0 6 out) - 6) (drop 6 (front ++ postOf 0 6 out))) →
+    (take (length (front ++ postOf 0 6 out) - 6) (drop 6 (front ++ postOf 0 6 out))) →
     body ≡ combined f v ws slices (m * v) m
 unfolding combined
 body-is f v ws own slices front out body m width pos ew eo ef el e =
@@ -96,10 +96,10 @@ record-laid C bytes c issue slices out last m width em ew room e =
     let whole : 6 + m * width ≡ record-length C bytes = ap (λ n. 6 + m * n) ew ∙ ap (λ n. 6 + n * C .stored) em in
     let long : length (take (6 + m * width - 0) out) ≡ record-length C bytes = length-take (6 + m * width - 0) out ∙ omega arith in
     let own : last ≡ record-from C bytes slices c issue =
-      e ∙ ap (λ n. head n (C .number) issue ++ combined (C .ops) (C .stored) (weights-for C c) slices (m * C .stored) m) long
-      ∙ ap (λ n. head (record-length C bytes) (C .number) issue ++ combined (C .ops) (C .stored) (weights-for C c) slices (n * C .stored) n) em in
+    e ∙ ap (λ n. head n (C .number) issue ++ combined (C .ops) (C .stored) (weights-for C c) slices (m * C .stored) m) long
+    ∙ ap (λ n. head (record-length C bytes) (C .number) issue ++ combined (C .ops) (C .stored) (weights-for C c) slices (n * C .stored) n) em in
     let size : length last ≡ 6 + m * width =
-      ap length own ∙ length-append (head (record-length C bytes) (C .number) issue) _
-      ∙ ap (λ n. n + length (combined (C .ops) (C .stored) (weights-for C c) slices (columns C bytes * C .stored) (columns C bytes))) (head-six (record-length C bytes) (C .number) issue)
-      ∙ ap (λ n. 6 + n) (length-combined (C .ops) (C .stored) (weights-for C c) slices (columns C bytes * C .stored) (columns C bytes)) ∙ sym whole in
+    ap length own ∙ length-append (head (record-length C bytes) (C .number) issue) _
+    ∙ ap (λ n. n + length (combined (C .ops) (C .stored) (weights-for C c) slices (columns C bytes * C .stored) (columns C bytes))) (head-six (record-length C bytes) (C .number) issue)
+    ∙ ap (λ n. 6 + n) (length-combined (C .ops) (C .stored) (weights-for C c) slices (columns C bytes * C .stored) (columns C bytes)) ∙ sym whole in
     ap (λ n. last ++ drop n out) (sub-zero (6 + m * width) ∙ sym size) ∙ ap (λ xs. over xs out) own

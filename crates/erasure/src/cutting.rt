@@ -8,11 +8,14 @@ ghost use Rattle.erasure.specs.Formula.{slice-of, spread, record-of, record-fr
 ghost use Rattle.std.specs.declared.result.Result.the-variants.{Err};
 ghost use Rattle.std.specs.Vec.{made};
 ghost use Rattle.erasure.specs.Slices.{fault-of, spread-answer, cut-answer};
-use algebra::Field;
-use base::{is_misfit, le_at, put_le};
-use crate::fault::{SliceCause, SliceFault};
+use crate::fault::SliceCause;
+use crate::fault::SliceFault;
 use crate::plan::Plan;
 use crate::records::write_record;
+use algebra::Field;
+use base::is_misfit;
+use base::le_at;
+use base::put_le;
 
 // How many columns a package of so many bytes has.
 fn column_count<F: Field>(k: usize, length: usize) -> usize
@@ -33,7 +36,12 @@ fn spread_slice<F: Field>(package: &[u8], k: usize, i: usize, out: &mut [u8])
     let width = F::data_width();
     let stored = F::stored_width();
     for j in 0..out.len() / stored {
-        put_le(out, j * stored, stored, le_at(package, (j * k + i) * width, width));
+        put_le(
+            out,
+            j * stored,
+            stored,
+            le_at(package, (j * k + i) * width, width),
+        );
     }
 }
 
@@ -77,7 +85,14 @@ pub fn spread<F: Field>(plan: &Plan, package: &[u8], slices: &mut [u8]) -> Resul
 // Cuts the record of a cabinet from the slices of a package of so many bytes, into the front of the output, and answers
 // the record's length. The rest of the output stays as it was, and all of it on a refusal: no package has that length, no
 // such cabinet is fitted, the issue is 0, or the output is too short, in that order.
-pub fn cut_spread<F: Field>(plan: &Plan, bytes: usize, slices: &[u8], cabinet: usize, issue: u16, out: &mut [u8]) -> Result<usize, SliceFault>
+pub fn cut_spread<F: Field>(
+    plan: &Plan,
+    bytes: usize,
+    slices: &[u8],
+    cabinet: usize,
+    issue: u16,
+    out: &mut [u8],
+) -> Result<usize, SliceFault>
     ensures answers { λ r. ⌜ r ≡ cut-answer (coding ops width stored number (now (plan .entry) .k)) (now (plan .entry) .n) bytes cabinet issue (length (now (out .entry))) ⌝ }
     ensures fills { λ r. ⌜ now (out .exit) ≡ leaves r (now (out .entry)) (over (record-from (coding ops width stored number (now (plan .entry) .k)) bytes (now (slices .entry)) cabinet issue) (now (out .entry))) ⌝ }
 {
@@ -104,7 +119,13 @@ pub fn cut_spread<F: Field>(plan: &Plan, bytes: usize, slices: &[u8], cabinet: u
 // Cuts the record of a cabinet from a package, into the front of the output, and answers the record's length. The rest of
 // the output stays as it was, and all of it on a refusal: no package has that length, no such cabinet is fitted, the issue
 // is 0, or the output is too short, in that order.
-pub fn cut<F: Field>(plan: &Plan, package: &[u8], cabinet: usize, issue: u16, out: &mut [u8]) -> Result<usize, SliceFault>
+pub fn cut<F: Field>(
+    plan: &Plan,
+    package: &[u8],
+    cabinet: usize,
+    issue: u16,
+    out: &mut [u8],
+) -> Result<usize, SliceFault>
     ensures answers { λ r. ⌜ r ≡ cut-answer (coding ops width stored number (now (plan .entry) .k)) (now (plan .entry) .n) (length (now («package» .entry))) cabinet issue (length (now (out .entry))) ⌝ }
     ensures fills { λ r. ⌜ now (out .exit) ≡ leaves r (now (out .entry)) (over (record-of (coding ops width stored number (now (plan .entry) .k)) (now («package» .entry)) cabinet issue) (now (out .entry))) ⌝ }
     ensures exact { λ r. ⌜ made r (λ _. IsRecord (coding ops width stored number (now (plan .entry) .k)) (now («package» .entry)) cabinet issue (record-of (coding ops width stored number (now (plan .entry) .k)) (now («package» .entry)) cabinet issue)) ⌝ }

@@ -32,6 +32,10 @@ impl Head {
         ensures number { λ r. ⌜ r .number ≡ le-value (part (now («record» .entry)) 2 2) ⌝ }
         ensures issue { λ r. ⌜ r .issue ≡ le-value (part (now («record» .entry)) 4 2) ⌝ }
     {
-        Head { whole: u16_at(record, 0), number: u16_at(record, 2), issue: u16_at(record, 4) }
+        Head {
+            whole: u16_at(record, 0),
+            number: u16_at(record, 2),
+            issue: u16_at(record, 4),
+        }
     }
 }

@@ -5,7 +5,10 @@ pub mod head;
 pub mod plan;
 mod records;
 
-pub use crate::cutting::{cut, cut_spread, spread};
-pub use crate::fault::{SliceCause, SliceFault};
+pub use crate::cutting::cut;
+pub use crate::cutting::cut_spread;
+pub use crate::cutting::spread;
+pub use crate::fault::SliceCause;
+pub use crate::fault::SliceFault;
 pub use crate::head::Head;
 pub use crate::plan::Plan;

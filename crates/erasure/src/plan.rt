@@ -5,7 +5,8 @@ ghost use Rattle.std.specs.Results.{Cases};
 ghost use Rattle.std.specs.declared.option.Option.the-variants.{None};
 ghost use Rattle.erasure.specs.declared.fault.SliceCause.the-variants.{PlanMisfit};
 ghost use Rattle.erasure.specs.Slices.{plan-fits, fault-of};
-use crate::fault::{SliceCause, SliceFault};
+use crate::fault::SliceCause;
+use crate::fault::SliceFault;
 
 // How a package is cut: into n records, one to a cabinet, of which any k restore it. There is no plan but 1 ≤ k ≤ n ≤ 16.
 #[derive(Clone, Copy)]
@@ -23,7 +24,10 @@ impl Plan {
         if 1 <= k && k <= n && n <= 16 {
             Ok(Plan { k, n })
         } else {
-            Err(SliceFault { cause: SliceCause::PlanMisfit, cabinet: None })
+            Err(SliceFault {
+                cause: SliceCause::PlanMisfit,
+                cabinet: None,
+            })
         }
     }
 

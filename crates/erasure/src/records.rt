@@ -5,8 +5,9 @@ ghost use lib.ListN.{length, take};
 ghost use Rattle.algebra.specs.Slices.{combined};
 ghost use Rattle.erasure.specs.Records.{coding, head};
 ghost use Rattle.erasure.specs.Formula.{weights-for};
-use algebra::{weights, Field};
 use crate::head::Head;
+use algebra::Field;
+use algebra::weights;
 
 const POINTS: [u32; 16] = [0, 1, 2, 3, 4, 5, 6, 7, 8, 9, 10, 11, 12, 13, 14, 15];
 
@@ -21,7 +22,14 @@ fn own_weights<F: Field>(k: usize, cabinet: usize) -> [u32; 16]
 }
 
 // Writes the record of a cabinet, from the slices of a package, into an output of just its length.
-pub(crate) fn write_record<F: Field>(k: usize, columns: usize, slices: &[u8], cabinet: usize, issue: u16, out: &mut [u8])
+pub(crate) fn write_record<F: Field>(
+    k: usize,
+    columns: usize,
+    slices: &[u8],
+    cabinet: usize,
+    issue: u16,
+    out: &mut [u8],
+)
     requires few { ⌜ k ≤ 16 ⌝ }
     requires fitted { ⌜ cabinet < 16 ⌝ }
     requires whole { ⌜ length (now out) ≡ 6 + columns * stored ⌝ }
@@ -29,7 +37,16 @@ pub(crate) fn write_record<F: Field>(k: usize, columns: usize, slices: &[u8], ca
     ensures { λ _. ⌜ now (out .exit) ≡ head (length (now (out .entry))) number issue ++ combined ops stored (weights-for (coding ops width stored number k) cabinet) (now (slices .entry)) (columns * stored) columns ⌝ }
 {
     let all = own_weights::<F>(k, cabinet);
-    let head = Head { whole: out.len() as u16, number: F::field_number(), issue };
+    let head = Head {
+        whole: out.len() as u16,
+        number: F::field_number(),
+        issue,
+    };
     out[0..6].copy_from_slice(&head.to_bytes());
-    F::combine(&all[0..k], slices, columns * F::stored_width(), &mut out[6..]);
+    F::combine(
+        &all[0..k],
+        slices,
+        columns * F::stored_width(),
+        &mut out[6..],
+    );
 }

@@ -4,5 +4,4 @@ ghost use Rattle.figures.specs.Marked.{Marked};
 // That the definitions give the marked figures; it does nothing else.
 pub fn marked_figures()
     ensures { λ _. ⌜ Marked ⌝ }
-{
-}
+{}

@@ -101,16 +101,16 @@ module _ (bit : ℕ) (xs ws bs : List ℕ) (stride i : ℕ) where
       let reads : (j : ℕ) → getD bs (begin + j) 0 ≡ s j = λ j. ap (λ b. getD bs (b + j) 0) eb ∙ held bs (i * stride) n j h in
       ap (λ k. map (λ j. bitXor (getD now j 0) (getD bs (begin + j) 0)) (counting 0 k)) long
       ∙ same-map _ _ (length xs) (λ j l.
-        ap (λ a. bitXor a (getD bs (begin + j) 0)) (ap (λ ys. getD ys j 0) e ∙ at-map (λ j. bitXor (getD xs j 0) (bit-sum bit ws bs stride i j)) (length xs) j l)
-        ∙ ap (bitXor (bitXor (getD xs j 0) (bit-sum bit ws bs stride i j))) (reads j) ∙ xor-assoc (getD xs j 0) (bit-sum bit ws bs stride i j) (s j)
-        ∙ ap (λ a. bitXor (getD xs j 0) (bitXor (bit-sum bit ws bs stride i j) a)) (sym (ap (λ b. sel b (s j)) one)) ∙ ap (λ k. bitXor (getD xs j 0) (bit-sum bit ws bs stride k j)) (sym (add-one i)))
+      ap (λ a. bitXor a (getD bs (begin + j) 0)) (ap (λ ys. getD ys j 0) e ∙ at-map (λ j. bitXor (getD xs j 0) (bit-sum bit ws bs stride i j)) (length xs) j l)
+      ∙ ap (bitXor (bitXor (getD xs j 0) (bit-sum bit ws bs stride i j))) (reads j) ∙ xor-assoc (getD xs j 0) (bit-sum bit ws bs stride i j) (s j)
+      ∙ ap (λ a. bitXor (getD xs j 0) (bitXor (bit-sum bit ws bs stride i j) a)) (sym (ap (λ b. sel b (s j)) one)) ∙ ap (λ k. bitXor (getD xs j 0) (bit-sum bit ws bs stride k j)) (sym (add-one i)))
 
   -- and none, where it is 0
   pub bits-same : (now : List ℕ) → now ≡ bits-added bit xs ws bs stride i → bit-of (getD ws i 0) bit ≡ 0 → now ≡ bits-added bit xs ws bs stride (i + 1)
   unfolding bits-added bit-sum
   bits-same now e none =
       e ∙ same-map _ _ (length xs) (λ j l. ap (bitXor (getD xs j 0))
-        (sym (xor-zero-r (bit-sum bit ws bs stride i j)) ∙ ap (bitXor (bit-sum bit ws bs stride i j)) (sym (ap (λ b. sel b (s j)) none)) ∙ ap (λ k. bit-sum bit ws bs stride k j) (sym (add-one i))))
+      (sym (xor-zero-r (bit-sum bit ws bs stride i j)) ∙ ap (bitXor (bit-sum bit ws bs stride i j)) (sym (ap (λ b. sel b (s j)) none)) ∙ ap (λ k. bit-sum bit ws bs stride k j) (sym (add-one i))))
 
 -- ---- one weight, from one bit to the next
 weight-split : (c b : ℕ) → bitXor (c / 2 ^ (b + 1) * 2) (c / 2 ^ b % 2) ≡ c / 2 ^ b
@@ -196,7 +196,7 @@ module _ (ws bs : List ℕ) (stride : ℕ) (bytes : Bytes bs) where
       let a = getD bs (k * stride + j) 0 in
       let c = code 256 (getD ws k 0) in
       let term : m a (c / 1) ≡ gf256 .mul (stored-at 1 bs (k * stride + j)) (at ws k) =
-        ap (m a) (div-one c) ∙ ap (λ x. m x c) (sym (ap (code 256) (stored-one (k * stride + j)) ∙ code-of a (bytes (k * stride + j)))) in
+      ap (m a) (div-one c) ∙ ap (λ x. m x c) (sym (ap (code 256) (stored-one (k * stride + j)) ∙ code-of a (bytes (k * stride + j)))) in
       let small : m a (c / 1) < 256 = subst (λ x. m a x < 256) (sym (div-one c)) (product-lt 8 0x11d tested a c (bytes (k * stride + j)) (code-lt (getD ws k 0))) in
       sym (ap (λ x. bitXor x (m a (c / 1))) (code-of (from 0 k j) (bits-lt 0 k j))) ∙ ap (bitXor (code 256 (from 0 k j))) (sym (code-of (m a (c / 1)) small))
       ∙ ap (λ x. bitXor (code 256 x) (code 256 (m a (c / 1)))) (bits-all k j)
@@ -216,10 +216,10 @@ module _ (ws bs : List ℕ) (stride : ℕ) (bytes : Bytes bs) where
       let k = length ws in
       let n = length was in
       let own : (j : ℕ) → le-bytes 1 (combined-at gf256 1 ws bs stride (j * 1)) ≡ from 0 k j ∷ [] = λ j.
-        let low : from 0 k j % 256 ≡ from 0 k j = mod-eq-of-lt (bits-lt 0 k j) in
-        ap (λ p. combined-at gf256 1 ws bs stride p % 256 ∷ []) (mul-one j) ∙ ap (λ x. x % 256 ∷ []) (sym (bits-all k j)) ∙ ap (λ x. x ∷ []) low in
+      let low : from 0 k j % 256 ≡ from 0 k j = mod-eq-of-lt (bits-lt 0 k j) in
+      ap (λ p. combined-at gf256 1 ws bs stride p % 256 ∷ []) (mul-one j) ∙ ap (λ x. x % 256 ∷ []) (sym (bits-all k j)) ∙ ap (λ x. x ∷ []) low in
       let same : joined (λ j. le-bytes 1 (combined-at gf256 1 ws bs stride (j * 1))) (counting 0 n) ≡ now =
-        joined-same _ _ (counting 0 n) own ∙ joined-one (from 0 k) (counting 0 n) ∙ sym e in
+      joined-same _ _ (counting 0 n) own ∙ joined-one (from 0 k) (counting 0 n) ∙ sym e in
       let long : n ≤ length now = omega (arith, ap length e ∙ length-map-counting (from 0 k) 0 n) in
       sym (append-nil now) ∙ ap (λ ys. now ++ ys) (sym (drop-all (length now) was long)) ∙ ap (λ ys. over ys was) (sym same)
       ∙ ap (λ i. over (joined (λ j. le-bytes 1 (combined-at gf256 1 ws bs stride (j * 1))) (counting 0 i)) was) (sym (div-one n))
@@ -235,9 +235,9 @@ module _ (ws bs : List ℕ) (stride : ℕ) (bytes : Bytes bs) where
       let twofold : ℕ → ℕ = λ j. m (getD now j 0) 2 in
       ap (λ i. map (λ j. bitXor (getD (doubled now) j 0) (bit-sum b ws bs stride k j)) (counting 0 i)) (length-map-counting twofold 0 (length now) ∙ long)
       ∙ same-map _ _ n (λ j l.
-        ap (λ x. bitXor x (bit-sum b ws bs stride k j)) (at-map twofold (length now) j (subst (λ i. j < i) (sym long) l)
-          ∙ ap (λ x. m x 2) (ap (λ ys. getD ys j 0) e ∙ at-map (from (b + 1) k) n j l))
-        ∙ sym (bits-step b k j))
+      ap (λ x. bitXor x (bit-sum b ws bs stride k j)) (at-map twofold (length now) j (subst (λ i. j < i) (sym long) l)
+      ∙ ap (λ x. m x 2) (ap (λ ys. getD ys j 0) e ∙ at-map (from (b + 1) k) n j l))
+      ∙ sym (bits-step b k j))
 
   -- before the first bit all is 0
   pub bits-start : (n : ℕ) → replicate n 0 ≡ map (from 8 (length ws)) (counting 0 n)

@@ -4,9 +4,10 @@ ghost use Prim.Native.Nat.{_<_};
 ghost use Rattle.algebra.specs.Fields.{code, inverse};
 ghost use Rattle.binary.specs.Binary.{product};
 ghost use Rattle.gf256.specs.Gf256.{gf256};
-use algebra::Field;
 use crate::slices::combine_bits;
-use crate::tables::{exponent, power_of_two};
+use crate::tables::exponent;
+use crate::tables::power_of_two;
+use algebra::Field;
 
 mod slices;
 mod tables;
@@ -40,7 +41,9 @@ pub struct Gf256;
 
 pub impl Field for Gf256 as Gf256Field {
     const W: usize = 1;
+
     const V: usize = 1;
+
     const NUMBER: u16 = 1;
 
     ghost ops = { gf256 };

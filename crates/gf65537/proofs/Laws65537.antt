@@ -34,8 +34,8 @@ inverse-zero = inverse-none p times 0 (λ b h e. let z : _≡_ {A = ℕ} 0 1 = s
 -- an inverse is the inverse
 pub only-inverse : (a b : ℕ) → b < p → times a b ≡ 1 → inverse p times a ≡ b
 only-inverse a b h e = inverse-is p times a b h e (λ c hc ec.
-  sym (product-one c hc) ∙ ap (times c) (sym e) ∙ sym (product-assoc c a b) ∙ ap (λ n. times n b) (product-comm c a ∙ ec)
-  ∙ product-comm 1 b ∙ product-one b h)
+    sym (product-one c hc) ∙ ap (times c) (sym e) ∙ sym (product-assoc c a b) ∙ ap (λ n. times n b) (product-comm c a ∙ ec)
+    ∙ product-comm 1 b ∙ product-one b h)
 
 inv-lt : (a : ℕ) → a < p → inverse p times a < p
 inv-lt zero h = rw inverse-zero (lit< tt)

@@ -59,7 +59,9 @@ pub struct Gf65537;
 
 pub impl Field for Gf65537 as Gf65537Field {
     const W: usize = 2;
+
     const V: usize = 3;
+
     const NUMBER: u16 = 2;
 
     ghost ops = { gf65537 };

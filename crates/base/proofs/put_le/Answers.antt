@@ -20,7 +20,8 @@ loop-i-again c =
     let i = c .loop-i .i in
     let n = c .args .value in
     let v = c .loop-i .inv in
-    let room : at + i < length out = omega arith in
-    (ap (λ xs. set xs (at + i) (c .loop-i .rest % 256)) (v .0) ∙ written-more out (le-bytes i n) at i (c .loop-i .rest % 256) (length-le-bytes i n) room
-     ∙ ap (λ m. written out at (le-bytes i n ++ (m % 256) ∷ [])) (v .1) ∙ ap (written out at) (sym (le-bytes-more i n)),
-     ap (λ m. m / 256) (v .1) ∙ div-div-eq-div-mul n (256 ^ i) 256 ∙ ap (λ m. n / m) (sym (pow-suc 256 i) ∙ ap (λ m. 256 ^ m) (sym (add-one i))))
+    let room : at + i < length out = omega arith in (
+      ap (λ xs. set xs (at + i) (c .loop-i .rest % 256)) (v .0) ∙ written-more out (le-bytes i n) at i (c .loop-i .rest % 256) (length-le-bytes i n) room
+          ∙ ap (λ m. written out at (le-bytes i n ++ (m % 256) ∷ [])) (v .1) ∙ ap (written out at) (sym (le-bytes-more i n)),
+      ap (λ m. m / 256) (v .1) ∙ div-div-eq-div-mul n (256 ^ i) 256 ∙ ap (λ m. n / m) (sym (pow-suc 256 i) ∙ ap (λ m. 256 ^ m) (sym (add-one i))),
+    )

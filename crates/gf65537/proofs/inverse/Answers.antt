@@ -18,9 +18,12 @@ pub loop-x-again : need.loop-x-again
 loop-x-again c =
     let v = c .loop-x .inv in
     let low : 2 ≤ c .loop-x .x = omega arith in
-    let less : 65537 % c .loop-x .x < c .loop-x .x = mod-lt 65537 (omega arith) in
-    (ap (times (c .args .a)) (c .product-c .ensures) ∙ step (c .args .a) (c .loop-x .c) (c .loop-x .x) (v .0) low (v .2),
-     prime (c .loop-x .x) low (v .2), omega arith, subst (λ n. n < 65537) (sym (c .product-c .ensures)) (mod-lt _ p-pos))
+    let less : 65537 % c .loop-x .x < c .loop-x .x = mod-lt 65537 (omega arith) in (
+      ap (times (c .args .a)) (c .product-c .ensures) ∙ step (c .args .a) (c .loop-x .c) (c .loop-x .x) (v .0) low (v .2),
+      prime (c .loop-x .x) low (v .2),
+      omega arith,
+      subst (λ n. n < 65537) (sym (c .product-c .ensures)) (mod-lt _ p-pos),
+    )
 
 pub returns : need.returns
 returns c =

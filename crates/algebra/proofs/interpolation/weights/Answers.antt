@@ -27,5 +27,5 @@ returns g c =
     record {
       fills = whole;
       value = λ enough p hx vs codes. weights-value f (g .F·Field·met .lawful) (length ps) (at ps) p (at (c .loop-j .weights)) vs codes (c .args .x) hx
-        (λ i hi. ap (λ xs. at xs i) whole ∙ mapped-at own ps ws i enough hi);
+          (λ i hi. ap (λ xs. at xs i) whole ∙ mapped-at own ps ws i enough hi);
     }

@@ -11,5 +11,5 @@ returns g c =
     record {
       value = value;
       bound = subst (λ m. c .args .k * (m * f .stored) ≤ 6400) (sym value)
-        (slices-fit (f .ops) (f .width) (f .stored) (f .number) (g .F·Field·met .widths) (c .args .k) (c .args .length) (c .pre .low) (c .pre .high) (c .pre .few));
+          (slices-fit (f .ops) (f .width) (f .stored) (f .number) (g .F·Field·met .widths) (c .args .k) (c .args .length) (c .pre .low) (c .pre .high) (c .pre .few));
     }

@@ -25,12 +25,12 @@ returns g c =
     let zeros : List ℕ = replicate 6400 0 in
     let out = c .args .out .now in
     let same : (x : ℕ) → c .cut-spread .result ≡ Ok x → over (record-from C (length pkg) (c .spread .last .slices) (c .args .cabinet) (c .args .issue)) out ≡ over (record-of C pkg (c .args .cabinet) (c .args .issue)) out =
-      λ x e.
-        let fit = cut-past C L W (c .args .plan .now .n) (length pkg) (c .args .cabinet) (c .args .issue) (length out) x (sym (c .cut-spread .ensures .answers) ∙ e) .0 in
-        let slices = spread-done C L W pkg zeros (c .spread .last .slices) (c .spread .result) (omega (arith, plan)) (omega (arith, plan)) (length-replicate {A = ℕ} 6400 0) (fits (length pkg) fit .2) fit
-          (c .spread .ensures .answers) (c .spread .ensures .fills) in
-        ap (λ xs. over xs out) (ap (λ xs. record-from C (length pkg) xs (c .args .cabinet) (c .args .issue)) slices
-          ∙ record-is C L W pkg (drop (length (spread C pkg)) zeros) (length pkg) (c .args .cabinet) (c .args .issue) bytes refl) in
+    λ x e.
+    let fit = cut-past C L W (c .args .plan .now .n) (length pkg) (c .args .cabinet) (c .args .issue) (length out) x (sym (c .cut-spread .ensures .answers) ∙ e) .0 in
+    let slices = spread-done C L W pkg zeros (c .spread .last .slices) (c .spread .result) (omega (arith, plan)) (omega (arith, plan)) (length-replicate {A = ℕ} 6400 0) (fits (length pkg) fit .2) fit
+    (c .spread .ensures .answers) (c .spread .ensures .fills) in
+    ap (λ xs. over xs out) (ap (λ xs. record-from C (length pkg) xs (c .args .cabinet) (c .args .issue)) slices
+    ∙ record-is C L W pkg (drop (length (spread C pkg)) zeros) (length pkg) (c .args .cabinet) (c .args .issue) bytes refl) in
     record {
       answers = c .cut-spread .ensures .answers;
       fills = c .cut-spread .ensures .fills ∙ leaves-same (c .cut-spread .result) out _ _ same;

@@ -36,5 +36,5 @@ returns g c =
       answers = search needs;
       fills = record-laid C (c .args .bytes) (c .args .cabinet) (c .args .issue) (c .args .slices .now) (c .args .out .now) (c .write-record .last .out)
           (c .column-count-columns .result) (c .stored-width .result) (c .column-count-columns .ensures .value) (c .stored-width .ensures) (c .if-out-whole .left) (c .write-record .ensures)
-        ∙ ap (λ n. over (record-from (coding (f .ops) (f .width) (f .stored) (f .number) n) (c .args .bytes) (c .args .slices .now) (c .args .cabinet) (c .args .issue)) (c .args .out .now)) (c .needed-k .ensures);
+          ∙ ap (λ n. over (record-from (coding (f .ops) (f .width) (f .stored) (f .number) n) (c .args .bytes) (c .args .slices .now) (c .args .cabinet) (c .args .issue)) (c .args .out .now)) (c .needed-k .ensures);
     }

@@ -19,7 +19,7 @@ loop-j-again g c =
     stored-next own (f .stored) (c .stored-width-stored .result) (c .stored-width-stored .ensures) (c .args .out .now) (c .loop-j .out) (c .put-le .last .out) (c .loop-j .j)
     (c .le-at .result) (c .loop-j .inv) (c .loop-j .kept .out) (c .loop-j-test .taken)
     (read-symbol (f .ops) (f .width) (f .stored) (f .number) (g .F·Field·met .widths) pkg (c .loop-j .j * c .args .k + c .args .i) (c .data-width-width .result) (c .le-at .result)
-      (c .data-width-width .ensures) (c .le-at .ensures))
+    (c .data-width-width .ensures) (c .le-at .ensures))
     (c .put-le .ensures)
 
 pub returns : need.returns

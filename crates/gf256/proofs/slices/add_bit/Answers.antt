@@ -22,15 +22,16 @@ loop-i-again c =
     let i = c .loop-i .i in
     let few : length bs ≤ 18446744073709551615 = omega arith in
     elim (c .if-has-bit .came) [
-      then-has-bit w ↦
-        w .out-is ∙ w .add-from .ensures
-        ∙ bits-more bit xs ws bs (c .args .stride) i (c .loop-i .out) (w .saturating-mul .result) 18446744073709551615 (c .loop-i .inv) few (w .saturating-mul .ensures)
+      | then-has-bit w ↦
+          w .out-is ∙ w .add-from .ensures
+          ∙ bits-more bit xs ws bs (c .args .stride) i (c .loop-i .out) (w .saturating-mul .result) 18446744073709551615 (c .loop-i .inv) few (w .saturating-mul .ensures)
           (eqb-true (bit-of (getD ws i 0) bit) 1 (sym (c .has-bit .ensures) ∙ w .if-has-bit .taken))
-    | else-has-bit w ↦
-        w .out-is
-        ∙ bits-same bit xs ws bs (c .args .stride) i (c .loop-i .out) (c .loop-i .inv)
+      | else-has-bit w ↦
+          w .out-is
+          ∙ bits-same bit xs ws bs (c .args .stride) i (c .loop-i .out) (c .loop-i .inv)
           (let no-one : bit-of (getD ws i 0) bit ≡ 1 → ⊥ = eqb-false (bit-of (getD ws i 0) bit) 1 (sym (c .has-bit .ensures) ∙ w .if-has-bit .left) in
-           let low : bit-of (getD ws i 0) bit < 2 = omega arith in omega arith) ]
+          let low : bit-of (getD ws i 0) bit < 2 = omega arith in omega arith)
+    ]
 
 pub returns : need.returns
 returns c =

@@ -15,10 +15,10 @@ loop-i-again g c =
     let h : length bs ≤ 18446744073709551615 = omega arith in
     let begin = c .saturating-add-begin .ensures ∙ ap (λ m. min (m + c .args .place) 18446744073709551615) (c .saturating-mul .ensures) in
     let read : c .le-at .result ≡ stored-at (g .Self·Field .stored) bs (c .loop-i .i * c .args .stride + c .args .place) =
-      read-stored (g .Self·Field .ops) (g .Self·Field·met .lawful) (g .Self·Field .width) (g .Self·Field .stored) (g .Self·Field .number) (g .Self·Field·met .widths)
-      bs (c .loop-i .i * c .args .stride) (c .args .place) 18446744073709551615 (c .le-at .result) h
-      (c .le-at .ensures ∙ ap (λ m. le-value (part bs m (min (c .stored-width .result) 4))) begin
-      ∙ ap (λ m. le-value (part bs (min (min (c .loop-i .i * c .args .stride) 18446744073709551615 + c .args .place) 18446744073709551615) (min m 4))) (c .stored-width .ensures)) in
+    read-stored (g .Self·Field .ops) (g .Self·Field·met .lawful) (g .Self·Field .width) (g .Self·Field .stored) (g .Self·Field .number) (g .Self·Field·met .widths)
+    bs (c .loop-i .i * c .args .stride) (c .args .place) 18446744073709551615 (c .le-at .result) h
+    (c .le-at .ensures ∙ ap (λ m. le-value (part bs m (min (c .stored-width .result) 4))) begin
+    ∙ ap (λ m. le-value (part bs (min (min (c .loop-i .i * c .args .stride) 18446744073709551615 + c .args .place) 18446744073709551615) (min m 4))) (c .stored-width .ensures)) in
     rw add-one (cc)
 
 pub returns : need.returns
