@@ -1,90 +1,19 @@
 // Takes a bay map through the layers that stand, and prints each action.
-use aes128::Aes128;
+mod sealing;
+mod shelving;
+
 use aes128::Aes128Cipher;
-use aont::fault::SealFaultDisplay;
-use aont::seal;
-use aont::unseal;
-use cipher::Cipher;
-use speck128::Speck128;
 use speck128::Speck128Cipher;
 use std::error::AnyError;
 use std::fs;
 
-// A demonstration's key is fixed, so that its output is; a controller draws a fresh one for each sealing.
-const KEY: [u8; 16] = *b"a key drawn once";
-
-// Room for any package, and so for any file.
-const MOST: usize = 4128;
-
-fn row(rt: &LibcRuntime, action: &str, what: &str, bytes: usize) -> Result<(), AnyError> {
-    println!(rt, "  {action:<7} {what:<46} {bytes:>5} bytes")?;
-    Ok(())
-}
-
-// Unseals a package and says what came of it: the file again, another one, or a refusal.
-fn try_unseal<C: Cipher>(
-    rt: &LibcRuntime,
-    what: &str,
-    package: &[u8],
-    file: &[u8],
-) -> Result<(), AnyError> {
-    let mut out = vec![in rt.alloc(); 0u8; MOST]?;
-    match unseal::<C>(package, out.as_mut_slice()) {
-        Ok(n) => {
-            let same = n <= out.len() && &out.as_slice()[0..n] == file;
-            let verdict = if same {
-                "the bay map again"
-            } else {
-                "ANOTHER FILE"
-            };
-            println!(rt, "  unseal  {what:<46} {n:>5} bytes: {verdict}")?;
-        }
-        Err(fault) => println!(rt, "  unseal  {what:<46} {fault}")?,
-    }
-    Ok(())
-}
-
-fn show<C: Cipher>(rt: &LibcRuntime, name: &str, file: &[u8]) -> Result<(), AnyError> {
-    println!(rt, "{name}")?;
-    let mut package = vec![in rt.alloc(); 0u8; MOST]?;
-    match seal::<C>(&KEY, file, package.as_mut_slice()) {
-        Ok(n) => {
-            row(rt, "seal", "the bay map, under a key that nobody keeps", n)?;
-            package.truncate(n);
-        }
-        Err(fault) => println!(rt, "  seal    {fault}")?,
-    }
-    try_unseal::<C>(rt, "the whole package", package.as_slice(), file)?;
-    let n = package.len();
-    if n > 16 {
-        try_unseal::<C>(
-            rt,
-            "without its last block",
-            &package.as_slice()[0..n - 16],
-            file,
-        )?;
-        package[7] = package[7] ^ 1;
-        try_unseal::<C>(
-            rt,
-            "with one bit of byte 7 turned",
-            package.as_slice(),
-            file,
-        )?;
-    }
-    Ok(())
-}
-
 fn run(rt: &LibcRuntime) -> Result<(), AnyError> {
     let map = fs::read(rt, "bay-map.txt")?;
-    println!(rt, "Bay map")?;
-    row(
-        rt,
-        "read",
-        "bay-map.txt, which sensor is in which bay",
-        map.len(),
-    )?;
-    show::<Aes128Cipher>(rt, "AES-128", map.as_slice())?;
-    show::<Speck128Cipher>(rt, "Speck128/128", map.as_slice())
+    println!(rt, "The bay map: which sensor is in which bay")?;
+    sealing::row(rt, "read", "bay-map.txt", map.len())?;
+    sealing::show::<Aes128Cipher>(rt, "Sealed with AES-128", map.as_slice())?;
+    sealing::show::<Speck128Cipher>(rt, "Sealed with Speck128/128", map.as_slice())?;
+    shelving::show(rt, map.as_slice())
 }
 
 fn main(rt: LibcRuntime) -> Result<(), AnyError> {

@@ -1,0 +1,4 @@
+pub mod Model
+pub mod Faults
+pub mod Calls
+pub mod Seen
