@@ -19,7 +19,7 @@ use Rattle.aont.specs.Package.{block, canary, canary-in, frame, frame-in, mess
 use Rattle.base.specs.Sizes.{misfit}
 use Rattle.aont.specs.Seals.{framed, unsealed}
 use Rattle.aont.proofs.Framing.{frame-from, length-frame, length-named, number-named, zeros-named}
-use Rattle.aont.proofs.Parts.{part-part}
+use Rattle.base.proofs.Pieces.{part-part}
 use Rattle.base.proofs.Lengths.{fits}
 use Rattle.aont.proofs.Sealed.{bytes-frame-in, canary-block, length-frame-in, length-message-in}
 use Rattle.aont.proofs.Steps.{block-at}
@@ -77,7 +77,7 @@ module _ (E : List ℕ → List ℕ → List ℕ) (pkg : List ℕ) (fit : misfit
   number-first =
       let enough : 2 + 2 ≤ length pkg - 32 = omega (arith, fits (length pkg) fit) in
       ap (λ b. le-value (part b 2 2)) (sym (block-at (message-in E pkg) 0))
-      ∙ ap le-value (part-part (message-in E pkg) 0 16 2 2 (omega arith) ∙ sym (part-part (message-in E pkg) 0 (length pkg - 32) 2 2 enough))
+      ∙ ap le-value (part-part (message-in E pkg) 0 2 16 2 (omega arith) ∙ sym (part-part (message-in E pkg) 0 2 (length pkg - 32) 2 enough))
 
   -- a place of the last block is a place of the frame
   place-last : (i k : ℕ) → 16 * i + 16 ≡ length pkg - 32 → k < 16 → getD (block (i + 1) (message-in E pkg)) k 0 ≡ getD (frame-in E pkg) (16 * i + k) 0

@@ -29,14 +29,6 @@ take-upto n xs =
     (λ l. ap (λ m. take m xs) (omega arith))
     (cases-lt (length xs) n)
 
--- a part of a part is a part
-pub part-part : (xs : List ℕ) (a n b m : ℕ) → b + m ≤ n → part (part xs a n) b m ≡ part xs (a + b) m
-part-part xs a n b m h =
-    let whole : n ≡ b + (n - b) = omega arith in
-    let inside : m ≤ n - b = omega arith in
-    ap (λ k. part (take k (drop a xs)) b m) whole ∙ ap (take m) (drop-take b (n - b) (drop a xs)) ∙ take-take m (n - b) (drop b (drop a xs)) inside
-    ∙ ap (take m) (drop-drop b a xs)
-
 -- what is written where the front ends makes the front longer
 pub over-next : (a b d : List ℕ) (at : ℕ) → length a ≡ at → take at (over a d) ++ (b ++ drop (at + length b) (over a d)) ≡ over (a ++ b) d
 over-next a b d at h =

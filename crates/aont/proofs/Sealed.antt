@@ -23,7 +23,8 @@ use Rattle.base.proofs.Lengths.{fits, fits-so}
 use Rattle.base.proofs.Refusing.{past, passes}
 use Rattle.aont.specs.Seals.{Seals, Unseals, unseal-answer, unsealed}
 use Rattle.aont.proofs.Framing.{file-in-frame, length-frame, length-message}
-use Rattle.aont.proofs.Parts.{bytes-drop, bytes-take, part-part}
+use Rattle.base.proofs.Pieces.{part-part}
+use Rattle.aont.proofs.Parts.{bytes-drop, bytes-take}
 use Rattle.aont.proofs.Steps.{block-at, block-end}
 use Rattle.aont.proofs.Transform.{block-masked, bound-back, bound-block, bytes-masked, length-bound, length-masked, masked-back}
 
@@ -104,7 +105,7 @@ module _ (E : List ℕ → List ℕ → List ℕ) (pkg : List ℕ) (fit : misfit
   block-in i l =
       let start : 0 + 16 * i ≡ 16 * i = omega arith in
       let same : block (i + 1) (body pkg) ≡ block (i + 1) pkg =
-      sym (block-at (body pkg) i) ∙ part-part pkg 0 (length pkg - 16) (16 * i) 16 (omega arith) ∙ ap (λ a. part pkg a 16) start ∙ block-at pkg i in
+      sym (block-at (body pkg) i) ∙ part-part pkg 0 (16 * i) (length pkg - 16) 16 (omega arith) ∙ ap (λ a. part pkg a 16) start ∙ block-at pkg i in
       block-masked E (key-in E pkg) (body pkg) count length-body i (omega (arith, fits (length pkg) fit))
       ∙ ap (λ b. xor b (E (key-in E pkg) (number-block (i + 1)))) same
 

@@ -11,7 +11,8 @@ use Rattle.aont.specs.Package.{block, bound, frame-in, masked, message, messag
 use Rattle.base.specs.Sizes.{misfit}
 use Rattle.aont.specs.Seals.{unsealed}
 use Rattle.aont.proofs.Framing.{length-message}
-use Rattle.aont.proofs.Parts.{over-next, part-part, take-add, take-size, take-upto}
+use Rattle.base.proofs.Pieces.{part-part}
+use Rattle.aont.proofs.Parts.{over-next, take-add, take-size, take-upto}
 use Rattle.base.proofs.Lengths.{fits}
 use Rattle.aont.proofs.Sealed.{length-blocks, length-frame-in}
 use Rattle.aont.proofs.Steps.{block-at}
@@ -63,7 +64,7 @@ module _ (E : List ℕ → List ℕ → List ℕ) (number : ℕ) (pkg : List ℕ
   pub unsealed-part : unsealed E number pkg ≡ part (message-in E pkg) 4 (length (unsealed E number pkg))
   unsealed-part =
       let fr = frame-in E pkg in
-      sym (take-size (le-value (take 2 fr)) (drop 4 fr)) ∙ part-part (message-in E pkg) 0 (length pkg - 32) 4 (length (unsealed E number pkg)) length-unsealed
+      sym (take-size (le-value (take 2 fr)) (drop 4 fr)) ∙ part-part (message-in E pkg) 0 4 (length pkg - 32) (length (unsealed E number pkg)) length-unsealed
 
 -- the piece of a file that one block holds, put behind the pieces before it
 pub piece-next : (msg file d : List ℕ) (i : ℕ) → file ≡ part msg 4 (length file) → 16 * i ≤ length file + 3
@@ -76,8 +77,8 @@ piece-next msg file d i whole low b s s1 at from end eb ea ef ee e e1 =
     let count : from + (end - at) - from ≡ end - at = omega arith in
     let piece : take (from + (end - at) - from) (drop from b) ≡ part file at (end - at) =
     ap (λ m. part b from m) count ∙ ap (λ z. part z from (end - at)) (eb ∙ sym (block-at msg i))
-    ∙ part-part msg (16 * i) 16 from (end - at) (omega arith) ∙ ap (λ a. part msg a (end - at)) (omega arith)
-    ∙ sym (part-part msg 4 n at (end - at) (omega arith)) ∙ ap (λ z. part z at (end - at)) (sym whole) in
+    ∙ part-part msg (16 * i) from 16 (end - at) (omega arith) ∙ ap (λ a. part msg a (end - at)) (omega arith)
+    ∙ sym (part-part msg 4 at n (end - at) (omega arith)) ∙ ap (λ z. part z at (end - at)) (sym whole) in
     let front : length (take at file) ≡ at = length-take-le at file (omega arith) in
     let sum : at + (end - at) ≡ end = omega arith in
     e1 ∙ ap (λ z. take at s ++ (z ++ drop (at + length z) s)) piece

@@ -1,4 +1,5 @@
--- A loop that overwrites a list place by place with g of the place: its invariant, its step and its end. Assumes nothing.
+-- Lists by their places, and a loop that overwrites one place by place with g of the place: its invariant, its step and its
+-- end. Assumes nothing.
 use mathlib.Core.List.{List, map}
 use mathlib.Core.Logic.{_≢_, ⊎-elim}
 use mathlib.Core.Path.{_≡_, refl, sym, _∙_}
@@ -6,7 +7,8 @@ use Prim.Native.Nat.{ℕ, _+_, _<_, _≤_}
 use native.Mathlib.Omega.{arith}
 use lib.ListN.{getD, length, set}
 use Rattle.std.specs.Iters.{counting}
-use Rattle.std.proofs.shelf.Counted.{fill-by-all}
+use native.Mathlib.Nat.{zero-add}
+use Rattle.std.proofs.shelf.Counted.{fill-by-all, getD-map-counting, length-map-counting}
 use Rattle.std.proofs.shelf.Edits.{fill-by-more}
 use Rattle.std.proofs.shelf.Lists.{length-set, getD-set-other}
 use Rattle.std.proofs.shelf.Tests.{cases-lt}
@@ -37,3 +39,7 @@ placed-rest was now i g p left =
 
 pub placed-all : (was now : List ℕ) (i : ℕ) (g : ℕ → ℕ) → length was ≤ i → Placed was now i g → now ≡ map g (counting 0 (length was))
 placed-all was now i g h p = placed-rest was now i g p (λ k l m. absurd (omega arith))
+
+pub same-map : (f g : ℕ → ℕ) (n : ℕ) → ((j : ℕ) → j < n → f j ≡ g j) → map f (counting 0 n) ≡ map g (counting 0 n)
+same-map f g n h =
+    fill-by-all g (map f (counting 0 n)) n 0 (length-map-counting f 0 n) (λ k l. getD-map-counting f 0 n k k 0 l (zero-add k) ∙ h k l)

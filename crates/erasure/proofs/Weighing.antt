@@ -10,6 +10,7 @@ use Rattle.std.proofs.shelf.Counted.{fill-by-all, getD-counting, getD-map-count
 use Rattle.std.proofs.shelf.Lists.{map-id, take-all, take-at, drop-all, append-nil, length-append, length-drop, length-take}
 use borrow.Rule.Slice.PartMut.{putMid, postOf}
 use Rattle.base.specs.Bytes.{over}
+use Rattle.base.proofs.Placed.{same-map}
 use Rattle.base.proofs.Pieces.{over-whole, put-part, length-stored}
 use Rattle.algebra.specs.Fields.{Ops, Laws}
 use Rattle.algebra.specs.Polynomials.{at}
@@ -22,9 +23,6 @@ use Rattle.erasure.specs.Formula.{weights-for, record-from}
 pub front-counting : (n k : ℕ) → k ≤ n → take (k - 0) (counting 0 n) ≡ counting 0 k
 front-counting n k h =
     ap (λ m. take m (counting 0 n)) (sub-zero k) ∙ ap (take k) (sym (map-id (counting 0 n))) ∙ take-map-counting (λ x. x) 0 n k h ∙ map-id (counting 0 k)
-
-same-map : (f g : ℕ → ℕ) (n : ℕ) → ((j : ℕ) → f j ≡ g j) → map f (counting 0 n) ≡ map g (counting 0 n)
-same-map f g n h = fill-by-all g (map f (counting 0 n)) n 0 (length-map-counting f 0 n) (λ k l. getD-map-counting f 0 n k k 0 l (zero-add k) ∙ h k)
 
 module _ (C : Coding) (L : Laws (C .ops)) (c : ℕ) where
   -- the formula's weights by a list of points
@@ -41,7 +39,7 @@ module _ (C : Coding) (L : Laws (C .ops)) (c : ℕ) where
       let each : map (λ p. weight (C .ops) (length (counting 0 k)) (at (counting 0 k)) p c) (take (length part) (counting 0 k)) ≡ ws =
       ap (λ xs. map (λ p. weight (C .ops) (length (counting 0 k)) (at (counting 0 k)) p c) xs)
       (ap (λ n. take n (counting 0 k)) long ∙ take-all k (counting 0 k) (omega (arith, length-counting 0 k)))
-      ∙ same-map _ _ k (λ p. ap (λ n. weight (C .ops) n (at (counting 0 k)) p c) (length-counting 0 k) ∙ weight-same (C .ops) L k (at (counting 0 k)) (λ i. i) p c point) in
+      ∙ same-map _ _ k (λ p _. ap (λ n. weight (C .ops) n (at (counting 0 k)) p c) (length-counting 0 k) ∙ weight-same (C .ops) L k (at (counting 0 k)) (λ i. i) p c point) in
       let count : length ws ≡ k = length-map-counting (λ p. weight (C .ops) k (λ i. i) p c) 0 k in
       let whole : last ≡ ws =
       e ∙ ap (λ ps. weights-by ps part) (front-counting 16 k few) ∙ ap (λ xs. over xs part) each ∙ over-whole ws part (omega (arith, count, long)) in

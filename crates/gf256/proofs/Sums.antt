@@ -18,6 +18,7 @@ use Rattle.std.proofs.shelf.Bits.{shr-shr, shr-le}
 use Rattle.std.proofs.shelf.Tests.{cases-lt}
 use Rattle.std.proofs.shelf.Lists.{length-take, getD-drop, getD-past, append-nil, drop-all, length-replicate, getD-replicate}
 use Rattle.base.specs.Bytes.{le-bytes, le-value, part, over, Bytes}
+use Rattle.base.proofs.Placed.{same-map}
 use Rattle.base.proofs.Places.{part-at, part-past, le-value-four}
 use Rattle.algebra.specs.Fields.{code}
 use Rattle.algebra.specs.Polynomials.{at, sumTo}
@@ -38,10 +39,6 @@ abbrev tested : Basis 8 0x11d
 tested = basis 8 0x11d undoing (lit< tt) passed
 
 -- ---- lists by their places
-pub same-map : (f g : ℕ → ℕ) (n : ℕ) → ((j : ℕ) → j < n → f j ≡ g j) → map f (counting 0 n) ≡ map g (counting 0 n)
-same-map f g n h =
-    fill-by-all g (map f (counting 0 n)) n 0 (length-map-counting f 0 n) (λ k l. getD-map-counting f 0 n k k 0 l (zero-add k) ∙ h k l)
-
 pub own-map : (xs : List ℕ) → xs ≡ map (λ j. getD xs j 0) (counting 0 (length xs))
 own-map xs = fill-by-all (λ j. getD xs j 0) xs (length xs) 0 refl (λ k l. refl)
 

@@ -18,7 +18,8 @@ use Rattle.rows.specs.declared.fault.RowFault.{RowFault}
 use Rattle.rows.specs.Calls.{of-cabinet, of-slot, reach-answer, cabinet-answer, slot-answer, held-answer, read-answer, write-answer}
 use Rattle.rows.specs.Faults.{cabinet-fault, slot-fault}
 use Rattle.rows.specs.Model.{RowModel, Slot, Empty, Condemned, Held, held, with-slot, with-reach, with-new}
-use Rattle.rows.proofs.Laws.{same-model, no-cabinet, no-cabinet-of-slot, leaves-through}
+use Rattle.base.proofs.Refusing.{leaves-through}
+use Rattle.rows.proofs.Laws.{same-model, no-cabinet, no-cabinet-of-slot}
 use Rattle.pile.specs.Piled.{end-to-end, piled, naming}
 
 pub piled-count : (a b : RowModel) → piled a b .count ≡ min 16 (a .count + b .count)

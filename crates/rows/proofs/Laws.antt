@@ -11,7 +11,7 @@ use Rattle.std.specs.declared.result.Result.{Result}
 use Rattle.std.specs.declared.result.Result.the-variants.{Ok, Err}
 use Rattle.std.proofs.shelf.Lists.{take-at}
 use Rattle.std.proofs.shelf.Tests.{cases-eq, cases-bool, and-parts, and-from, and-cases, or-parts, or-from, or-left, or-right, both-ways, not-true, not-false, eq-eqb, ne-eqb, eqb-true, eqb-false, le-leb, lt-leb, leb-true, leb-false, lt-ltb, le-ltb, ltb-false}
-use Rattle.base.specs.Answers.{refuse, leaves}
+use Rattle.base.proofs.Refusing.{past, passes, stops}
 use Rattle.base.specs.Bytes.{Bytes, over}
 use Rattle.rows.specs.declared.fault.RowCause.the-variants as cause
 use Rattle.rows.specs.declared.fault.RowFault.{RowFault}
@@ -55,71 +55,43 @@ module _ (m : RowModel) (c : ℕ) where
   pub new-other-slot : (d g : ℕ) → (d ≡ c → ⊥) → with-new m c .slot d g ≡ m .slot d g
   new-other-slot d g ne = let t : eqb d c ≡ false = ne-eqb d c ne in rw t
 
--- What a call leaves, by its answer.
-pub left-new : {T E X : Type 0} {x : T} (r : Result T E) (old new : X) → r ≡ Ok x → leaves r old new ≡ new
-left-new r old new e = ap (λ q. leaves q old new) e
-
-pub left-old : {T E X : Type 0} {e : E} (r : Result T E) (old new : X) → r ≡ Err e → leaves r old new ≡ old
-left-old r old new h = ap (λ q. leaves q old new) h
-
--- what a function makes of what a call leaves
-pub leaves-through : {T E X Y : Type 0} (F : X → Y) (r : Result T E) (old new : X) → F (leaves r old new) ≡ leaves r (F old) (F new)
-leaves-through F (Ok x) old new = refl
-leaves-through F (Err e) old new = refl
-
--- what a function makes of what a call leaves, where it need be known only for a call that is accepted
-pub leaves-so : {T E X Y : Type 0} (F : X → Y) (r : Result T E) (old new : X) (end : Y) → ((x : T) → r ≡ Ok x → F new ≡ end) → F (leaves r old new) ≡ leaves r (F old) end
-leaves-so F (Ok x) old new end h = h x refl
-leaves-so F (Err e) old new end h = refl
-
--- One check of a call.
-pub refuse-yes : {T E : Type 0} (b : Bool) (e : E) (r : Result T E) → b ≡ true → refuse b e r ≡ Err e
-refuse-yes b e r h = ap (λ t. refuse t e r) h
-
-pub refuse-no : {T E : Type 0} (b : Bool) (e : E) (r : Result T E) → b ≡ false → refuse b e r ≡ r
-refuse-no b e r h = ap (λ t. refuse t e r) h
-
-pub refuse-told : {T E : Type 0} {x : T} (b : Bool) (e : E) (r : Result T E) → refuse b e r ≡ Ok x → (b ≡ false) × (r ≡ Ok x)
-refuse-told true e r h = (cc, cc)
-refuse-told false e r h = (refl, h)
-
 -- The checks of a cabinet and of a file.
 module _ {T : Type 0} (m : RowModel) (c : ℕ) (next : Result T RowFault) where
   pub no-cabinet : m .count ≤ c → of-cabinet m c next ≡ Err (cabinet-fault cause.NoCabinet c)
-  no-cabinet h = refuse-yes (leb (m .count) c) _ _ (le-leb _ _ h)
+  no-cabinet h = stops (leb (m .count) c) _ _ (le-leb _ _ h)
 
   pub a-cabinet : c < m .count → of-cabinet m c next ≡ next
-  a-cabinet h = refuse-no (leb (m .count) c) _ _ (lt-leb _ _ h)
+  a-cabinet h = passes (leb (m .count) c) _ _ (lt-leb _ _ h)
 
   pub no-cabinet-of-slot : (f : ℕ) → m .count ≤ c → of-slot m c f next ≡ Err (slot-fault cause.NoCabinet c f)
-  no-cabinet-of-slot f h = refuse-yes (leb (m .count) c) _ _ (le-leb _ _ h)
+  no-cabinet-of-slot f h = stops (leb (m .count) c) _ _ (le-leb _ _ h)
 
   pub no-file-of-slot : (f : ℕ) → c < m .count → 8 ≤ f → of-slot m c f next ≡ Err (slot-fault cause.NoFile c f)
-  no-file-of-slot f h k = refuse-no (leb (m .count) c) _ _ (lt-leb _ _ h) ∙ refuse-yes (leb 8 f) _ _ (le-leb _ _ k)
+  no-file-of-slot f h k = passes (leb (m .count) c) _ _ (lt-leb _ _ h) ∙ stops (leb 8 f) _ _ (le-leb _ _ k)
 
   pub a-slot : (f : ℕ) → c < m .count → f < 8 → of-slot m c f next ≡ next
-  a-slot f h k = refuse-no (leb (m .count) c) _ _ (lt-leb _ _ h) ∙ refuse-no (leb 8 f) _ _ (lt-leb _ _ k)
+  a-slot f h k = passes (leb (m .count) c) _ _ (lt-leb _ _ h) ∙ passes (leb 8 f) _ _ (lt-leb _ _ k)
 
 -- When a call is accepted, and what that tells.
 pub cabinet-accepted : (m : RowModel) (c : ℕ) → c < m .count → cabinet-answer m c ≡ Ok tt
 cabinet-accepted m c h = a-cabinet m c (Ok tt) h
 
 pub cabinet-told : (m : RowModel) (c : ℕ) → cabinet-answer m c ≡ Ok tt → c < m .count
-cabinet-told m c h = leb-false _ _ (refuse-told (leb (m .count) c) _ _ h .0)
+cabinet-told m c h = leb-false _ _ (past (leb (m .count) c) _ _ _ h .0)
 
 pub slot-accepted : (m : RowModel) (c f : ℕ) → c < m .count → f < 8 → slot-answer m c f ≡ Ok tt
 slot-accepted m c f hc hf = a-slot m c (Ok tt) f hc hf
 
 pub slot-told : (m : RowModel) (c f : ℕ) → slot-answer m c f ≡ Ok tt → (c < m .count) × (f < 8)
 slot-told m c f h =
-    let p = refuse-told (leb (m .count) c) _ _ h in
-    let q = refuse-told (leb 8 f) _ _ (p .1) in
+    let p = past (leb (m .count) c) _ _ _ h in
+    let q = past (leb 8 f) _ _ _ (p .1) in
     (leb-false _ _ (p .0), leb-false _ _ (q .0))
 
 pub read-accepted : (m : RowModel) (c f n : ℕ) (bs : List ℕ) → c < m .count → f < 8 → m .reach c ≡ true → m .slot c f ≡ Held bs → length bs ≤ n → read-answer m c f n ≡ Ok (length bs)
 read-accepted m c f n bs hc hf hr hs hn =
-    a-slot m c _ f hc hf ∙ refuse-no (not (m .reach c)) _ _ (ap not hr)
-    ∙ ap (λ s. held-answer s c f n) hs ∙ refuse-no (ltb n (length bs)) _ _ (le-ltb _ _ hn)
+    a-slot m c _ f hc hf ∙ passes (not (m .reach c)) _ _ (ap not hr)
+    ∙ ap (λ s. held-answer s c f n) hs ∙ passes (ltb n (length bs)) _ _ (le-ltb _ _ hn)
 
 -- a slot that was read holds bytes
 pub record Readable (m : RowModel) (c f n k : ℕ) : Type 0 where
@@ -134,15 +106,15 @@ held-told : (s : Slot) (c f n k : ℕ) → held-answer s c f n ≡ Ok k → (s �
 held-told Empty c f n k h = (cc, cc, let z : _≡_ {A = ℕ} 0 1 = cc in absurd (omega arith))
 held-told Condemned c f n k h = (cc, cc, let z : _≡_ {A = ℕ} 0 1 = cc in absurd (omega arith))
 held-told (Held bs) c f n k h =
-    let p = refuse-told (ltb n (length bs)) _ _ h in
+    let p = past (ltb n (length bs)) _ _ _ h in
     let e : length bs ≡ k = cc (p .1) in
     (refl, sym e, omega (arith, ltb-false n (length bs) (p .0), e))
 
 pub read-told : (m : RowModel) (c f n k : ℕ) → read-answer m c f n ≡ Ok k → Readable m c f n k
 read-told m c f n k h =
-    let p = refuse-told (leb (m .count) c) _ _ h in
-    let q = refuse-told (leb 8 f) _ _ (p .1) in
-    let r = refuse-told (not (m .reach c)) _ _ (q .1) in
+    let p = past (leb (m .count) c) _ _ _ h in
+    let q = past (leb 8 f) _ _ _ (p .1) in
+    let r = past (not (m .reach c)) _ _ _ (q .1) in
     let s = held-told (m .slot c f) c f n k (r .1) in
     record { there = leb-false _ _ (p .0); file = leb-false _ _ (q .0); near = not-false _ (r .0); full = s .0; long = s .1; fits = s .2 }
 
@@ -153,19 +125,19 @@ read-front bs buffer n e = take-at bs (drop (length bs) buffer) n (sym e)
 pub write-accepted : (m : RowModel) (c f n : ℕ) → c < m .count → f < 8 → 1 ≤ n → n ≤ m .room → m .reach c ≡ true → write-answer m c f n ≡ Ok tt
 write-accepted m c f n hc hf h1 hn hr =
     a-slot m c _ f hc hf
-    ∙ refuse-no (eqb n 0 || ltb (m .room) n) _ _ (or-from (eqb n 0) (ltb (m .room) n) (ne-eqb n 0 (λ e. omega arith)) (le-ltb (m .room) n hn))
-    ∙ refuse-no (not (m .reach c)) _ _ (ap not hr)
+    ∙ passes (eqb n 0 || ltb (m .room) n) _ _ (or-from (eqb n 0) (ltb (m .room) n) (ne-eqb n 0 (λ e. omega arith)) (le-ltb (m .room) n hn))
+    ∙ passes (not (m .reach c)) _ _ (ap not hr)
 
 pub write-misfit : (m : RowModel) (c f n : ℕ) → c < m .count → f < 8 → (n ≡ 0) ⊎ (m .room < n) → write-answer m c f n ≡ Err (slot-fault cause.SizeMisfit c f)
 write-misfit m c f n hc hf o =
     a-slot m c _ f hc hf
-    ∙ refuse-yes (eqb n 0 || ltb (m .room) n) _ _ (⊎-elim (λ e. or-left (eqb n 0) (ltb (m .room) n) (eq-eqb n 0 e)) (λ h. or-right (eqb n 0) (ltb (m .room) n) (lt-ltb (m .room) n h)) o)
+    ∙ stops (eqb n 0 || ltb (m .room) n) _ _ (⊎-elim (λ e. or-left (eqb n 0) (ltb (m .room) n) (eq-eqb n 0 e)) (λ h. or-right (eqb n 0) (ltb (m .room) n) (lt-ltb (m .room) n h)) o)
 
 pub write-away : (m : RowModel) (c f n : ℕ) → c < m .count → f < 8 → 1 ≤ n → n ≤ m .room → m .reach c ≡ false → write-answer m c f n ≡ Err (slot-fault cause.OutOfReach c f)
 write-away m c f n hc hf h1 hn hr =
     a-slot m c _ f hc hf
-    ∙ refuse-no (eqb n 0 || ltb (m .room) n) _ _ (or-from (eqb n 0) (ltb (m .room) n) (ne-eqb n 0 (λ e. omega arith)) (le-ltb (m .room) n hn))
-    ∙ refuse-yes (not (m .reach c)) _ _ (ap not hr)
+    ∙ passes (eqb n 0 || ltb (m .room) n) _ _ (or-from (eqb n 0) (ltb (m .room) n) (ne-eqb n 0 (λ e. omega arith)) (le-ltb (m .room) n hn))
+    ∙ stops (not (m .reach c)) _ _ (ap not hr)
 
 pub record Writable (m : RowModel) (c f n : ℕ) : Type 0 where
   pub there : c < m .count
@@ -176,10 +148,10 @@ pub record Writable (m : RowModel) (c f n : ℕ) : Type 0 where
 
 pub write-told : (m : RowModel) (c f n : ℕ) → write-answer m c f n ≡ Ok tt → Writable m c f n
 write-told m c f n h =
-    let p = refuse-told (leb (m .count) c) _ _ h in
-    let q = refuse-told (leb 8 f) _ _ (p .1) in
-    let r = refuse-told (eqb n 0 || ltb (m .room) n) _ _ (q .1) in
-    let s = refuse-told (not (m .reach c)) _ _ (r .1) in
+    let p = past (leb (m .count) c) _ _ _ h in
+    let q = past (leb 8 f) _ _ _ (p .1) in
+    let r = past (eqb n 0 || ltb (m .room) n) _ _ _ (q .1) in
+    let s = past (not (m .reach c)) _ _ _ (r .1) in
     let size = or-parts (eqb n 0) (ltb (m .room) n) (r .0) in
     record {
       there = leb-false _ _ (p .0);

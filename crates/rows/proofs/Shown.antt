@@ -11,12 +11,13 @@ use Rattle.rows.specs.declared.table.Cell.the-variants as cell
 use Rattle.rows.specs.Model.{RowModel, Slot, Empty, Condemned, Held, Sound}
 use Rattle.rows.specs.Calls.{held-answer, read-answer}
 use Rattle.rows.specs.Seen.{cell-of, slot-cell, seen}
-use Rattle.rows.proofs.Laws.{refuse-yes, refuse-no, no-cabinet-of-slot, no-file-of-slot, a-slot}
+use Rattle.base.proofs.Refusing.{stops, passes}
+use Rattle.rows.proofs.Laws.{no-cabinet-of-slot, no-file-of-slot, a-slot}
 
 slot-shown : (s : Slot) (c f : ℕ) → ((bs : _) → s ≡ Held bs → length bs ≤ 6400) → cell-of (held-answer s c f 6400) ≡ slot-cell s
 slot-shown Empty c f most = refl
 slot-shown Condemned c f most = refl
-slot-shown (Held bs) c f most = ap cell-of (refuse-no (ltb 6400 (length bs)) _ _ (le-ltb 6400 (length bs) (most bs refl)))
+slot-shown (Held bs) c f most = ap cell-of (passes (ltb 6400 (length bs)) _ _ (le-ltb 6400 (length bs) (most bs refl)))
 
 pub read-shown : (m : RowModel) (c f : ℕ) → Sound m → cell-of (read-answer m c f 6400) ≡ seen m c f
 read-shown m c f fine = ⊎-elim

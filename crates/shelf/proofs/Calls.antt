@@ -10,7 +10,8 @@ use Rattle.base.specs.Answers.{leaves}
 use Rattle.rows.specs.declared.fault.RowFault.{RowFault}
 use Rattle.rows.specs.Calls.{cabinet-answer, slot-answer, write-answer}
 use Rattle.rows.specs.Model.{RowModel}
-use Rattle.rows.proofs.Laws.{leaves-so, cabinet-told, slot-told, write-told}
+use Rattle.base.proofs.Refusing.{leaves-so}
+use Rattle.rows.proofs.Laws.{cabinet-told, slot-told, write-told}
 use Rattle.shelf.specs.Layout.{fitting, shelved}
 use Rattle.shelf.proofs.Slots.{shelved-count, shelved-room}
 
