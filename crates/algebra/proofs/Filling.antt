@@ -1,11 +1,11 @@
 -- A loop that writes g of each element of one list over the front of another. Assumes nothing.
 use mathlib.Core.List.{List, [], _∷_, _++_, map}
 use mathlib.Core.Logic.{⊎-elim}
-use mathlib.Core.Path.{_≡_, refl, sym, ap, _∙_}
+use mathlib.Core.Path.{_≡_, sym, ap, _∙_}
 use Prim.Native.Nat.{ℕ, min, _+_, _<_, _≤_}
 use native.Mathlib.Omega.{arith}
 use lib.ListN.{getD, length, set, take, drop}
-use Rattle.std.proofs.shelf.Lists.{append-assoc, map-more, drop-more, set-at, length-map, length-take, length-take-le, take-all, getD-append-left, getD-map, getD-take}
+use Rattle.std.proofs.shelf.Lists.{append-assoc, map-more, drop-more, set-at, length-map, length-take, length-take-le, take-all, getD-append-left, getD-map}
 use Rattle.std.proofs.shelf.Tests.{cases-lt}
 use Rattle.base.specs.Bytes.{over}
 

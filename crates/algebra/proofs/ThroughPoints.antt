@@ -1,16 +1,15 @@
 -- Lagrange's formula gives the one polynomial of degree below k through k points. Assumes nothing.
 use mathlib.Core.Path.{_≡_, refl, sym, ap, subst, _∙_}
-use mathlib.Core.Bool.{Bool, true, false, cond}
+use mathlib.Core.Bool.{cond}
 use mathlib.Core.Logic.{_⊎_, inl, inr}
-use Prim.Native.Nat.{ℕ, zero, suc, _+_, _<_, _≤_}
+use Prim.Native.Nat.{ℕ, zero, suc, _<_, _≤_}
 use native.Mathlib.Nat.{eq-or-lt-of-le}
 use native.Mathlib.Omega.{arith}
 use native.Mathlib.Decide.{ℕ-discrete}
-use lib.Dec.{eqb}
 use borrow.Author.Tests.{eq-eqb, ne-eqb}
 use Rattle.algebra.specs.Fields.{Ops, Laws}
 use Rattle.algebra.specs.Lagrange.{prodTo, factor, weight, lagrange}
-use Rattle.algebra.specs.Polynomials.{eval, Points, Through, OnePolynomial, ValueAt, sumTo, weighed, Interpolates}
+use Rattle.algebra.specs.Polynomials.{eval, Points, Through, OnePolynomial, ValueAt, sumTo, weighed}
 use Rattle.algebra.proofs.Ring.{zero-code, zero-add, mul-left-comm, mul-zero, zero-mul, sub-self, sub-nonzero}
 use Rattle.algebra.proofs.Poly.{Polynomial, determined, poly-zero, poly-one, poly-add, poly-scale, poly-linear, poly-same, apart-pos}
 

@@ -8,7 +8,7 @@ use lib.Dec.{lit<}
 use lib.ListN.{length, take, drop}
 use Rattle.std.proofs.shelf.Lists.{append-assoc, drop-at, drop-drop, drop-take, getD-drop, length-append, take-all, take-append-drop, take-at, take-take}
 use Rattle.std.proofs.shelf.Tests.{cases-lt}
-use Rattle.base.specs.Bytes.{Bytes, part, over}
+use Rattle.base.specs.Bytes.{Bytes, over}
 
 pub take-add : (m n : ℕ) (xs : List ℕ) → take (m + n) xs ≡ take m xs ++ take n (drop m xs)
 take-add m n xs =

@@ -1,17 +1,17 @@
 -- Packages: what is sealed comes out again, and what is accepted was sealed. Assumes nothing.
-use mathlib.Core.Bool.{Bool, true, false, not, _||_}
+use mathlib.Core.Bool.{false, not}
 use mathlib.Core.List.{List, _++_}
 use mathlib.Core.Path.{_≡_, refl, sym, ap, subst, _∙_}
-use Prim.Native.Nat.{ℕ, _+_, _-_, _*_, _/_, _%_, _<_, _≤_}
+use Prim.Native.Nat.{ℕ, _+_, _-_, _*_, _/_, _<_, _≤_}
 use native.Mathlib.Omega.{arith}
-use lib.Dec.{eqb, ltb}
+use lib.Dec.{ltb}
 use lib.ListN.{length, take, drop}
 use Rattle.std.specs.declared.result.Result.{Result}
 use Rattle.std.specs.declared.result.Result.the-variants.{Ok}
 use Rattle.std.specs.shelf.Text.{sameBytes}
 use Rattle.std.proofs.shelf.Equals.{sameBytes-decides}
 use Rattle.std.proofs.shelf.Lists.{drop-at, length-append, length-drop, length-take-le, take-append-drop, take-at}
-use Rattle.std.proofs.shelf.Tests.{eq-eqb, eqb-true, le-ltb, ltb-false, not-false, not-from-true, or-from, or-parts}
+use Rattle.std.proofs.shelf.Tests.{le-ltb, not-false, not-from-true}
 use Rattle.base.specs.Answers.{leaves, refuse}
 use Rattle.base.specs.Bytes.{Bytes, le-value, over, part}
 use Rattle.cipher.specs.Blocks.{Block, CipherLaws, xor}

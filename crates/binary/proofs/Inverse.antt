@@ -1,12 +1,12 @@
 -- Every nonzero code has an inverse, its power 2^n - 2, by tests at powers of two: squaring is additive, n squarings are the identity,
 -- and a code that is its own square is 0 or 1. Assumes nothing.
-use mathlib.Core.Path.{_≡_, refl, sym, ap, subst, _∙_}
+use mathlib.Core.Path.{_≡_, refl, sym, ap, _∙_}
 use mathlib.Core.List.{List, [], _∷_}
-use Prim.Native.Nat.{ℕ, zero, suc, pred, _+_, _*_, _/_, _%_, _^_, _<_}
+use Prim.Native.Nat.{ℕ, zero, suc, pred, _/_, _%_, _^_, _<_}
 use native.Mathlib.Nat.{mod-lt}
 use native.Mathlib.Omega.{arith}
 use lib.Dec.{lit<}
-use lib.Bits.{bitXor, xor-lt, xor-self, xor-zero-l, xor-zero-r, xor-assoc, xor-comm, xor-mod, xor-shr}
+use lib.Bits.{bitXor, xor-lt, xor-self, xor-zero-l, xor-zero-r, xor-assoc, xor-mod, xor-shr}
 use lib.Pow.{pow-pos, pow-lt}
 use Rattle.binary.specs.Binary.{sel, product}
 use Rattle.binary.proofs.Linear.{span, product-xor, xor-product, zero-product, sel-xor, swapped}

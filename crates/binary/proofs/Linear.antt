@@ -1,12 +1,12 @@
 -- The product of polynomials over bits is additive on both sides, and what holds of sums and of each power of two holds of
 -- every number of n bits. Assumes nothing.
 use mathlib.Core.Path.{_≡_, refl, sym, ap, subst, _∙_}
-use mathlib.Core.Bool.{Bool, true, false, cond}
-use Prim.Native.Nat.{ℕ, zero, suc, pred, _+_, _*_, _/_, _%_, _^_, _<_, _≤_}
+use mathlib.Core.Bool.{true, false, cond}
+use Prim.Native.Nat.{ℕ, zero, suc, _+_, _*_, _/_, _%_, _^_, _<_}
 use native.Mathlib.Nat.{mod-lt, div-add-mod', div-lt-iff-lt-mul, pow-succ', zero-mul, one-mul, add-zero}
 use lib.Dec.{eqb, lit<}
 use native.Mathlib.Omega.{arith}
-use lib.Bits.{bitXor, xor-zero-l, xor-zero-r, xor-comm, xor-assoc, xor-self, xor-lt, xor-shifted, xor-shr, xor-mod, xor-block}
+use lib.Bits.{bitXor, xor-zero-l, xor-zero-r, xor-comm, xor-assoc, xor-self, xor-shifted, xor-shr, xor-mod, xor-block}
 use lib.Pow.{pow-pos}
 use Rattle.binary.specs.Binary.{sel, carryless, remainder, product}
 

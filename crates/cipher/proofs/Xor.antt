@@ -1,7 +1,7 @@
 -- The exclusive or of blocks: a block again, in any order, and it undoes itself. Assumes nothing.
 use mathlib.Core.List.{List, [], _∷_, map}
 use mathlib.Core.Path.{_≡_, refl, sym, ap, _∙_}
-use Prim.Native.Nat.{ℕ, zero, suc, _+_, _<_}
+use Prim.Native.Nat.{ℕ, zero, suc, _<_}
 use native.Mathlib.Omega.{arith}
 use lib.Bits.{bitXor, xor-lt, xor-comm, xor-assoc, xor-self, xor-zero-r}
 use lib.ListN.{getD, length}

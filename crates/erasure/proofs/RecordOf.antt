@@ -1,16 +1,14 @@
 -- The record that is made from a package's slices is the cabinet's. Assumes nothing.
-use mathlib.Core.Bool.{true, false, not}
-use mathlib.Core.List.{List, [], _++_, map}
+use mathlib.Core.Bool.{false, not}
+use mathlib.Core.List.{List, [], _++_}
 use mathlib.Core.Logic.{⊎-elim}
 use mathlib.Core.Path.{_≡_, refl, sym, ap, subst, _∙_}
-use Prim.Native.Nat.{ℕ, _+_, _*_, _/_, _^_, _<_, _≤_}
-use native.Mathlib.Nat.{add-mul, one-mul, mul-le-mul-right, zero-add, lt-of-lt-of-le, le-trans, pow-le-pow-right}
+use Prim.Native.Nat.{ℕ, _+_, _*_, _^_, _<_, _≤_}
+use native.Mathlib.Nat.{add-mul, one-mul, mul-le-mul-right, zero-add, lt-of-lt-of-le, pow-le-pow-right}
 use native.Mathlib.Omega.{arith}
 use borrow.Author.Tests.{ltb-true, le-ltb}
 use lib.Dec.{lit<, lit≤, eqb, ltb}
-use lib.ListN.{length, drop, getD}
-use Rattle.std.specs.Iters.{counting}
-use Rattle.std.specs.Joined.{joined}
+use lib.ListN.{length}
 use Rattle.std.proofs.shelf.Counted.{getD-map-counting, length-map-counting}
 use Rattle.std.proofs.shelf.Lists.{append-nil, length-take}
 use Rattle.std.proofs.shelf.Tests.{cases-lt}
@@ -26,9 +24,9 @@ use Rattle.std.proofs.shelf.Tests.{not-false}
 use Rattle.base.specs.Answers.{refuse, leaves}
 use Rattle.base.specs.Sizes.{misfit}
 use Rattle.base.proofs.Refusing.{past, passes, leaves-ok}
-use Rattle.algebra.specs.Fields.{Ops, Laws, Widths}
-use Rattle.algebra.specs.Polynomials.{at, Points, ValueAt, sumTo}
-use Rattle.algebra.specs.Lagrange.{weight, lagrange}
+use Rattle.algebra.specs.Fields.{Laws, Widths}
+use Rattle.algebra.specs.Polynomials.{at, Points, sumTo}
+use Rattle.algebra.specs.Lagrange.{weight}
 use Rattle.algebra.specs.Slices.{stored-at, combined-at, combined}
 use Rattle.algebra.proofs.ThroughPoints.{sum-same, formula-value}
 use Rattle.erasure.specs.Records.{Coding, head, columns, column, symbol, record-length, record-with, IsRecord}

@@ -1,6 +1,6 @@
 -- The slices of a package: laid one after the other, and read again. Assumes nothing.
 use mathlib.Core.List.{List, _++_}
-use mathlib.Core.Path.{_≡_, sym, ap, subst, _∙_}
+use mathlib.Core.Path.{_≡_, sym, ap, _∙_}
 use Prim.Native.Nat.{ℕ, _+_, _-_, _*_, _/_, _<_, _≤_}
 use native.Mathlib.Nat.{mul-div-cancel, add-mul, one-mul}
 use native.Mathlib.Omega.{arith}
@@ -9,8 +9,8 @@ use borrow.Rule.Slice.PartMut.{putMid}
 use Rattle.std.specs.Iters.{counting}
 use Rattle.std.specs.Joined.{joined}
 use Rattle.std.proofs.shelf.Lists.{length-take-le, length-drop}
-use Rattle.base.specs.Bytes.{over, written}
-use Rattle.base.proofs.Pieces.{over-whole, put-part, put-piece, put-pieces, length-pieces, length-stored}
+use Rattle.base.specs.Bytes.{over}
+use Rattle.base.proofs.Pieces.{over-whole, put-part, put-piece, put-pieces, length-stored}
 use Rattle.erasure.specs.Records.{Coding, columns, column}
 use Rattle.erasure.specs.Formula.{slice-of, spread}
 

@@ -4,9 +4,9 @@ use mathlib.Core.Path.{_≡_, refl, sym, ap, _∙_}
 use Prim.Native.Nat.{ℕ, _+_, _-_, _*_, _/_, _<_, _≤_}
 use native.Mathlib.Nat.{sub-zero, mul-div-cancel, zero-add}
 use native.Mathlib.Omega.{arith}
-use lib.ListN.{length, take, drop, getD}
+use lib.ListN.{length, take, drop}
 use Rattle.std.specs.Iters.{counting}
-use Rattle.std.proofs.shelf.Counted.{fill-by-all, getD-counting, getD-map-counting, length-counting, length-map-counting, take-map-counting}
+use Rattle.std.proofs.shelf.Counted.{getD-counting, length-counting, length-map-counting, take-map-counting}
 use Rattle.std.proofs.shelf.Lists.{map-id, take-all, take-at, drop-all, append-nil, length-append, length-drop, length-take}
 use borrow.Rule.Slice.PartMut.{putMid, postOf}
 use Rattle.base.specs.Bytes.{over}

@@ -1,5 +1,5 @@
 -- Sums of weighted slices, bit by bit of the weights. Assumes nothing.
-use mathlib.Core.Bool.{Bool, true, false, cond}
+use mathlib.Core.Bool.{Bool, cond}
 use mathlib.Core.List.{List, [], _∷_, _++_, map}
 use mathlib.Core.Logic.{⊎-elim}
 use mathlib.Core.Path.{_≡_, refl, sym, ap, subst, _∙_}
@@ -17,7 +17,7 @@ use Rattle.std.proofs.shelf.Counted.{fill-by-all, getD-map-counting, length-map
 use Rattle.std.proofs.shelf.Bits.{shr-shr, shr-le}
 use Rattle.std.proofs.shelf.Tests.{cases-lt}
 use Rattle.std.proofs.shelf.Lists.{length-take, getD-drop, getD-past, append-nil, drop-all, length-replicate, getD-replicate}
-use Rattle.base.specs.Bytes.{le-bytes, le-value, part, over, Bytes}
+use Rattle.base.specs.Bytes.{le-bytes, part, over, Bytes}
 use Rattle.base.proofs.Placed.{same-map}
 use Rattle.base.proofs.Places.{part-at, part-past, le-value-four}
 use Rattle.algebra.specs.Fields.{code}

@@ -1,18 +1,17 @@
 -- Two rows end to end. Assumes nothing.
-use mathlib.Core.Bool.{Bool, true, false, cond}
+use mathlib.Core.Bool.{true, false, cond}
 use mathlib.Core.List.{List}
 use mathlib.Core.Logic.{_⊎_, inl, inr, ⊎-elim}
-use mathlib.Core.Path.{_≡_, refl, _∙_}
-use Prim.Native.Nat.{ℕ, min, _+_, _-_, _<_, _≤_}
+use mathlib.Core.Path.{_≡_}
+use Prim.Native.Nat.{ℕ, min, _+_, _-_, _≤_}
 use native.Mathlib.Omega.{arith}
 use lib.Dec.{ltb}
-use lib.ListN.{length}
 use Rattle.std.proofs.shelf.Tests.{cases-bool, cases-lt, lt-ltb, le-ltb}
 use Rattle.std.specs.declared.option.Option.the-variants.{Some}
 use Rattle.std.specs.declared.result.Result.{Result}
 use Rattle.std.specs.declared.result.Result.the-variants.{Ok, Err}
 use Rattle.rows.specs.declared.fault.RowFault.{RowFault}
-use Rattle.rows.specs.Model.{RowModel, Slot, Empty, Held, Sound}
+use Rattle.rows.specs.Model.{RowModel, Empty, Held, Sound}
 
 -- what p says of the first n cabinets and q of those that follow, up to 16 in all
 abbrev pub end-to-end : {X : Type 0} → ℕ → (ℕ → X) → (ℕ → X) → X → ℕ → X

@@ -1,5 +1,5 @@
 -- What holds of the meaning of a row: for the layers that are rows, and for those that use one. Assumes nothing.
-use mathlib.Core.Bool.{Bool, true, false, cond, not, _&&_, _||_}
+use mathlib.Core.Bool.{Bool, true, false, not, _&&_, _||_}
 use mathlib.Core.List.{List}
 use mathlib.Core.Logic.{_⊎_, inl, inr, ⊎-elim}
 use mathlib.Core.Path.{_≡_, refl, sym, ap, _∙_}
@@ -10,7 +10,7 @@ use lib.ListN.{length, take, drop}
 use Rattle.std.specs.declared.result.Result.{Result}
 use Rattle.std.specs.declared.result.Result.the-variants.{Ok, Err}
 use Rattle.std.proofs.shelf.Lists.{take-at}
-use Rattle.std.proofs.shelf.Tests.{cases-eq, cases-bool, and-parts, and-from, and-cases, or-parts, or-from, or-left, or-right, both-ways, not-true, not-false, eq-eqb, ne-eqb, eqb-true, eqb-false, le-leb, lt-leb, leb-true, leb-false, lt-ltb, le-ltb, ltb-false}
+use Rattle.std.proofs.shelf.Tests.{cases-eq, cases-bool, and-from, or-parts, or-from, or-left, or-right, not-false, eq-eqb, ne-eqb, eqb-false, le-leb, lt-leb, leb-false, lt-ltb, le-ltb, ltb-false}
 use Rattle.base.proofs.Refusing.{past, passes, stops}
 use Rattle.base.specs.Bytes.{Bytes, over}
 use Rattle.rows.specs.declared.fault.RowCause.the-variants as cause

@@ -1,8 +1,8 @@
 -- What a read into a large buffer tells is what a table shows. Assumes nothing.
-use mathlib.Core.Bool.{Bool, true, false, cond, not, _&&_}
+use mathlib.Core.Bool.{true, false, cond, _&&_}
 use mathlib.Core.Logic.{_⊎_, inl, inr, ⊎-elim}
 use mathlib.Core.Path.{_≡_, refl, sym, ap, _∙_}
-use Prim.Native.Nat.{ℕ, _<_, _≤_}
+use Prim.Native.Nat.{ℕ, _≤_}
 use native.Mathlib.Omega.{arith}
 use lib.Dec.{ltb}
 use lib.ListN.{length}
@@ -11,7 +11,7 @@ use Rattle.rows.specs.declared.table.Cell.the-variants as cell
 use Rattle.rows.specs.Model.{RowModel, Slot, Empty, Condemned, Held, Sound}
 use Rattle.rows.specs.Calls.{held-answer, read-answer}
 use Rattle.rows.specs.Seen.{cell-of, slot-cell, seen}
-use Rattle.base.proofs.Refusing.{stops, passes}
+use Rattle.base.proofs.Refusing.{passes}
 use Rattle.rows.proofs.Laws.{no-cabinet-of-slot, no-file-of-slot, a-slot}
 
 slot-shown : (s : Slot) (c f : ℕ) → ((bs : _) → s ≡ Held bs → length bs ≤ 6400) → cell-of (held-answer s c f 6400) ≡ slot-cell s

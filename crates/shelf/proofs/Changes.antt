@@ -1,22 +1,22 @@
 -- What each call does to the row in a memory. Assumes nothing.
-use mathlib.Core.Bool.{Bool, true, false, cond, _&&_}
-use mathlib.Core.List.{List, [], _∷_, _++_}
-use mathlib.Core.Logic.{_⊎_, inl, inr, ⊎-elim, _≢_}
+use mathlib.Core.Bool.{true, false, cond, _&&_}
+use mathlib.Core.List.{List, [], _++_}
+use mathlib.Core.Logic.{_⊎_, inl, inr, ⊎-elim}
 use mathlib.Core.Path.{_≡_, refl, sym, ap, subst, _∙_}
-use Prim.Native.Nat.{ℕ, zero, suc, _+_, _-_, _*_, _^_, _<_, _≤_}
+use Prim.Native.Nat.{ℕ, zero, suc, _+_, _-_, _^_, _<_, _≤_}
 use native.Mathlib.Numerals.{add-one}
 use native.Mathlib.Omega.{arith}
-use lib.Dec.{eqb, leb, ltb, lit<}
+use lib.Dec.{eqb, ltb}
 use lib.ListN.{length, getD, set, take, drop}
 use Rattle.std.proofs.shelf.Lists.{length-set, length-take, length-drop, length-append, length-take-le, getD-append-left, getD-append-right, getD-take, getD-drop, getD-set-same, getD-set-other, drop-at, take-at}
-use Rattle.std.proofs.shelf.Tests.{cases-bool, cases-eq, cases-lt, and-parts, and-left, and-right, and-from, eq-eqb, ne-eqb, lt-ltb, le-ltb}
+use Rattle.std.proofs.shelf.Tests.{cases-bool, cases-eq, cases-lt, and-right, eq-eqb, ne-eqb, lt-ltb, le-ltb}
 use Rattle.base.specs.Bytes.{Bytes, le-bytes, le-value, part, written}
 use Rattle.base.proofs.Little.{length-le-bytes, le-value-le-bytes}
 use Rattle.rows.specs.Model.{RowModel, Slot, Empty, Condemned, Held, with-slot, with-reach, with-new}
 use Rattle.rows.proofs.Laws.{same-model}
 use Rattle.shelf.specs.Layout.{fitting, door, place, slot-at, shelved, with-held, with-empty, with-empty-cabinet}
 use Rattle.shelf.specs.Within.{door-within, place-within}
-use Rattle.shelf.proofs.Slots.{part-same, shelved-count, slot-empty, slot-held, slot-condemned, slot-changed, reach-changed}
+use Rattle.shelf.proofs.Slots.{part-same, slot-empty, slot-held, slot-condemned, slot-changed, reach-changed}
 
 -- one slot more
 pub with-empty-more : (xs ys : List ℕ) (r c n : ℕ) → ys ≡ with-empty xs r c n → set ys (place r c n) 0 ≡ with-empty xs r c (n + 1)

@@ -2,18 +2,18 @@
 use mathlib.Core.Bool.{Bool, true, false, cond, _&&_}
 use mathlib.Core.List.{List}
 use mathlib.Core.Logic.{_⊎_, inl, inr, ⊎-elim, _≢_}
-use mathlib.Core.Path.{_≡_, refl, sym, ap, _∙_}
-use Prim.Native.Nat.{ℕ, _+_, _-_, _*_, _<_, _≤_}
+use mathlib.Core.Path.{_≡_, refl, ap, _∙_}
+use Prim.Native.Nat.{ℕ, _+_, _-_, _<_, _≤_}
 use native.Mathlib.Omega.{arith}
 use lib.Dec.{eqb, leb, ltb, lit<}
-use lib.ListN.{length, getD, set, take, drop, length-take, length-drop}
+use lib.ListN.{length, getD, length-take, length-drop}
 use Rattle.std.proofs.shelf.Lists.{same-lists, getD-take, getD-drop, getD-default}
 use Rattle.std.proofs.shelf.Tests.{cases-bool, cases-eq, cases-lt, and-parts, and-from, and-left, and-right, both-ways, eq-eqb, ne-eqb, eqb-true, lt-ltb, le-ltb, le-leb, lt-leb, leb-true}
 use Rattle.base.specs.Bytes.{Bytes, le-value, part}
 use Rattle.base.proofs.Places.{part-at, part-past}
-use Rattle.rows.specs.Model.{RowModel, Slot, Empty, Condemned, Held, with-slot, with-reach}
+use Rattle.rows.specs.Model.{Slot, Empty, Condemned, Held, with-slot, with-reach}
 use Rattle.rows.proofs.Laws.{same-model}
-use Rattle.shelf.specs.Layout.{fitting, door, place, as-bytes, slot-at, shelved}
+use Rattle.shelf.specs.Layout.{fitting, door, place, slot-at, shelved}
 use Rattle.shelf.proofs.Apart.{door-apart, place-apart, door-differs}
 use Rattle.shelf.specs.Sound.{as-bytes-same}
 

@@ -1,5 +1,5 @@
 -- How a shelf lays a row of cabinets out in memory. Assumes nothing.
-use mathlib.Core.Bool.{Bool, true, false, cond, _&&_}
+use mathlib.Core.Bool.{cond, _&&_}
 use mathlib.Core.List.{List, map}
 use Prim.Native.Nat.{ℕ, zero, suc, min, _+_, _*_, _/_, _%_}
 use lib.Dec.{eqb, leb, ltb}

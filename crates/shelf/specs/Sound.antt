@@ -1,18 +1,18 @@
 -- What a memory holds is a sound row, which the interface asks to be shown with the meaning: proofs, nobody has to believe
 -- them. Assumes nothing.
-use mathlib.Core.Bool.{Bool, true, false, cond, _&&_}
-use mathlib.Core.List.{List, [], _∷_, map}
+use mathlib.Core.Bool.{false, _&&_}
+use mathlib.Core.List.{List, [], _∷_}
 use mathlib.Core.Logic.{inl, inr}
-use mathlib.Core.Path.{_≡_, refl, sym, ap, subst, _∙_}
-use Prim.Native.Nat.{ℕ, zero, suc, _+_, _%_, _<_, _≤_, min}
+use mathlib.Core.Path.{_≡_, refl, ap, subst, _∙_}
+use Prim.Native.Nat.{ℕ, zero, suc, _+_, _%_, _<_, _≤_}
 use native.Mathlib.Omega.{arith}
 use lib.Dec.{eqb, leb, ltb, lit<}
 use lib.ListN.{length, getD, length-take, length-drop}
 use Rattle.std.proofs.shelf.Lists.{length-map}
 use Rattle.std.proofs.shelf.Tests.{cases-bool, and-parts, and-left, and-right, ltb-true, leb-true, le-ltb}
 use Rattle.base.specs.Bytes.{Bytes, le-value, part}
-use Rattle.rows.specs.Model.{RowModel, Slot, Empty, Condemned, Held, Sound}
-use Rattle.shelf.specs.Layout.{stride, fitting, door, place, as-bytes, slot-at, shelved, room-of, shelf-model}
+use Rattle.rows.specs.Model.{Slot, Empty, Condemned, Held, Sound}
+use Rattle.shelf.specs.Layout.{fitting, place, as-bytes, slot-at, shelved, room-of, shelf-model}
 use Rattle.shelf.specs.Within.{place-within}
 
 pub bytes-as-bytes : (xs : List ℕ) → Bytes (as-bytes xs)

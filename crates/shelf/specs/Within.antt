@@ -1,5 +1,5 @@
 -- The cabinets and slots of a shelf lie within its memory: proofs, nobody has to believe them. Assumes nothing.
-use Prim.Native.Nat.{ℕ, _+_, _*_, _/_, _<_, _≤_, min}
+use Prim.Native.Nat.{ℕ, _+_, _*_, _/_, _<_, _≤_}
 use native.Mathlib.Nat.{div-mul-le-self, mul-le-mul-right, add-mul, one-mul}
 use native.Mathlib.Omega.{arith}
 use Rattle.shelf.specs.Layout.{stride, fitting, door, place}

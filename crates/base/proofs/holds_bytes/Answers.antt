@@ -1,7 +1,5 @@
 use lib.Dec.{lit<}
-use mathlib.Core.Path.{_≡_, sym, subst}
 use Prim.Native.Nat.{_<_}
-use lib.ListN.{getD, length}
 use native.Mathlib.Omega.{arith}
 use Rattle.std.proofs.shelf.Lists.{getD-past}
 use Rattle.base.proofs.holds_bytes.Needs as need

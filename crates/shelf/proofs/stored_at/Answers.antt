@@ -1,10 +1,9 @@
 use mathlib.Core.Logic.{inl, inr}
-use mathlib.Core.Path.{_≡_, refl, sym, ap, _∙_}
+use mathlib.Core.Path.{sym, ap, _∙_}
 use Prim.Native.Nat.{_+_}
 use native.Mathlib.Omega.{arith}
-use lib.ListN.{length, length-take, length-drop}
-use Rattle.base.specs.Bytes.{le-value, part}
-use Rattle.shelf.specs.Layout.{shelved, slot-at, place}
+use lib.ListN.{length-take, length-drop}
+use Rattle.shelf.specs.Layout.{slot-at}
 use Rattle.shelf.proofs.Slots.{shelved-slot, slot-empty, slot-held, slot-condemned, part-bytes}
 use Rattle.shelf.proofs.stored_at.Needs as need
 

@@ -1,9 +1,8 @@
 use mathlib.Core.Logic.{inl, inr}
-use mathlib.Core.Path.{_≡_, refl, sym, ap, _∙_}
-use Prim.Native.Nat.{_<_}
+use mathlib.Core.Path.{refl, sym, ap, _∙_}
 use native.Mathlib.Omega.{arith}
 use lib.ListN.{length}
-use Rattle.std.specs.declared.result.Result.the-variants.{Ok, Err}
+use Rattle.std.specs.declared.result.Result.the-variants.{Err}
 use Rattle.rows.proofs.Laws.{write-misfit, write-away, write-accepted}
 use Rattle.shelf.specs.Layout.{shelved, with-held}
 use Rattle.shelf.proofs.Slots.{shelved-count, shelved-room}

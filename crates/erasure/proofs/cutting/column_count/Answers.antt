@@ -1,6 +1,5 @@
-use mathlib.Core.Path.{_≡_, sym, ap, subst}
+use mathlib.Core.Path.{sym, ap, subst}
 use Prim.Native.Nat.{_+_, _-_, _*_, _/_, _≤_}
-use Rattle.erasure.specs.Records.{coding, columns}
 use Rattle.erasure.proofs.Reading.{slices-fit}
 use Rattle.erasure.proofs.cutting.column_count.Needs as need
 

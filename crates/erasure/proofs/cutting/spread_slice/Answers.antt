@@ -1,8 +1,7 @@
-use mathlib.Core.Path.{_≡_, ap, _∙_}
-use Prim.Native.Nat.{ℕ, min, _+_, _*_, _/_, _≤_}
+use mathlib.Core.Path.{_≡_}
+use Prim.Native.Nat.{ℕ, _+_, _*_, _/_}
 use native.Mathlib.Omega.{arith}
 use lib.ListN.{length}
-use Rattle.base.specs.Bytes.{le-value, part}
 use Rattle.base.proofs.Pieces.{stored-none, stored-next, stored-end}
 use Rattle.erasure.specs.Records.{coding, column}
 use Rattle.erasure.proofs.Reading.{read-symbol}

@@ -1,9 +1,8 @@
-use mathlib.Core.Path.{_≡_, refl, _∙_}
-use Prim.Native.Nat.{ℕ, _-_, _≤_}
+use mathlib.Core.Path.{_≡_, _∙_}
+use Prim.Native.Nat.{ℕ, _-_}
 use mathlib.Core.List.{List}
 use lib.ListN.{length, take, replicate}
 use native.Mathlib.Omega.{arith}
-use Rattle.std.specs.Iters.{counting}
 use Rattle.std.proofs.shelf.Lists.{length-take}
 use Rattle.erasure.specs.Records.{coding}
 use Rattle.erasure.proofs.Weighing.{own-weights}

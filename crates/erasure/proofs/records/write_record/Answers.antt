@@ -1,9 +1,8 @@
 use mathlib.Core.List.{_++_}
-use mathlib.Core.Path.{_≡_, refl, sym, ap, _∙_}
+use mathlib.Core.Path.{_≡_, ap, _∙_}
 use Prim.Native.Nat.{_*_, _-_}
 use native.Mathlib.Nat.{sub-zero}
 use lib.ListN.{length, take}
-use Rattle.algebra.specs.Slices.{combined}
 use Rattle.algebra.proofs.Stored.{stored-least}
 use Rattle.erasure.specs.Records.{coding, head}
 use Rattle.erasure.specs.Formula.{weights-for}

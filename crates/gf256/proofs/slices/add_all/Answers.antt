@@ -1,5 +1,5 @@
-use mathlib.Core.Path.{_≡_, sym, ap, _∙_}
-use Prim.Native.Nat.{_+_, _<_, _≤_, min}
+use mathlib.Core.Path.{sym, ap, _∙_}
+use Prim.Native.Nat.{_+_, _<_, _≤_}
 use lib.Bits.{bitXor, xor-zero-r}
 use lib.ListN.{getD, length}
 use native.Mathlib.Nat.{zero-add}

@@ -1,8 +1,6 @@
 use mathlib.Core.Path.{_≡_, sym, ap, _∙_}
-use Prim.Native.Nat.{_+_, _*_, _<_, _≤_, min}
-use lib.Dec.{eqb, eqb→eq, T}
+use Prim.Native.Nat.{_<_, _≤_}
 use lib.ListN.{getD, length}
-use native.Mathlib.Nat.{mod-lt}
 use native.Mathlib.Omega.{arith}
 use borrow.Author.Tests.{eqb-true, eqb-false}
 use Rattle.gf256.specs.Slices.{bit-of, bits-added}

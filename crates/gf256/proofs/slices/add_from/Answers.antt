@@ -1,5 +1,4 @@
 use mathlib.Core.Path.{ap, _∙_}
-use lib.ListN.{length, take, drop}
 use Rattle.std.proofs.shelf.Lists.{take-rest}
 use Rattle.gf256.specs.Slices.{added}
 use Rattle.gf256.proofs.Sums.{added-drop, added-past}

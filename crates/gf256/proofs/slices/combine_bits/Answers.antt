@@ -1,11 +1,10 @@
 use mathlib.Core.List.{map}
 use mathlib.Core.Path.{_≡_, sym, ap, _∙_}
-use Prim.Native.Nat.{ℕ, _+_, _-_}
+use Prim.Native.Nat.{_+_, _-_}
 use lib.ListN.{length, replicate}
 use native.Mathlib.Omega.{arith}
 use Rattle.std.specs.Iters.{counting}
-use Rattle.base.specs.Bytes.{Bytes, over}
-use Rattle.algebra.specs.Slices.{combined}
+use Rattle.base.specs.Bytes.{Bytes}
 use Rattle.gf256.specs.Slices.{bits-added}
 use Rattle.gf256.proofs.Sums.{bits-from, bits-start, bits-turn, combined-bits}
 use Rattle.gf256.proofs.slices.combine_bits.Needs as need

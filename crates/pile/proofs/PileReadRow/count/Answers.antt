@@ -1,4 +1,4 @@
-use mathlib.Core.Path.{_≡_, sym, ap, _∙_}
+use mathlib.Core.Path.{sym, ap, _∙_}
 use Prim.Native.Nat.{min, _+_}
 use Rattle.pile.proofs.Piling.{piled-count}
 use Rattle.pile.proofs.PileReadRow.count.Needs as need

@@ -1,4 +1,4 @@
-use mathlib.Core.Path.{_≡_, sym, ap, _∙_}
+use mathlib.Core.Path.{ap, _∙_}
 use Rattle.rows.proofs.Shown.{read-shown}
 use Rattle.rows.specs.Seen.{cell-of}
 use Rattle.rows.proofs.table.seen_at.Needs as need

@@ -1,10 +1,10 @@
-use mathlib.Core.Path.{_≡_, refl, ap, _∙_}
+use mathlib.Core.Path.{_≡_, ap, _∙_}
 use Prim.Native.Nat.{_+_, _*_, min, _≤_}
 use native.Mathlib.Numerals.{add-one}
 use native.Mathlib.Omega.{arith}
 use lib.ListN.{length}
 use Rattle.base.specs.Bytes.{le-value, part}
-use Rattle.algebra.specs.Polynomials.{at, weighed}
+use Rattle.algebra.specs.Polynomials.{at}
 use Rattle.algebra.specs.Slices.{stored-at, combined-at}
 use Rattle.algebra.proofs.Stored.{read-stored}
 use Rattle.algebra.proofs.field.Field.combine_at.Needs as need
