@@ -101,13 +101,13 @@ pub impl fmt::Display for RowFault as RowFaultDisplay {
     fn fmt<W: fmt::Write>(&self, f: &mut fmt::Formatter<W>) -> fmt::Result {
         let number = self.number();
         let cause = self.cause;
-        write!(f, "refused by the row with {number}: {cause}")?;
+        write!(f, "refused {number}")?;
         if let Some(cabinet) = self.cabinet {
             write!(f, ", cabinet {cabinet}")?;
         }
         if let Some(file) = self.file {
             write!(f, ", file {file}")?;
         }
-        Ok(())
+        write!(f, ": {cause}")
     }
 }

@@ -46,22 +46,19 @@ pub struct Table<'a, R> {
 
 impl<'a, R: ReadRow> Table<'a, R> {
     // A table of the row, which it reads as often as it is written out.
-    pub fn new(row: &'a R) -> Self {
+    pub fn new(row: &'a R) -> Self
+        ensures { λ r. ⌜ now (r .row) ≡ now (row .entry) ⌝ }
+    {
         Table { row }
     }
 }
 
-impl fmt::Display for Cell as CellDisplay {
-    fn fmt<W: fmt::Write>(&self, f: &mut fmt::Formatter<W>) -> fmt::Result {
-        match self {
-            Cell::Hidden => Ok(()),
-            Cell::Empty => write!(f, "{:>10}", "-"),
-            Cell::Condemned => write!(f, "{:>10}", "condemned"),
-            Cell::Holds(n) => {
-                let n = *n;
-                write!(f, "{n:>10}")
-            }
-        }
+fn write_cell<W: fmt::Write>(cell: Cell, f: &mut fmt::Formatter<W>) -> fmt::Result {
+    match cell {
+        Cell::Hidden => write!(f, "{:>10}", ""),
+        Cell::Empty => write!(f, "{:>10}", "-"),
+        Cell::Condemned => write!(f, "{:>10}", "condemned"),
+        Cell::Holds(n) => write!(f, "{n:>10}"),
     }
 }
 
@@ -76,8 +73,7 @@ fn write_line<R: ReadRow, W: fmt::Write>(
         _ => return writeln!(f, "  away"),
     }
     for file in 0..8usize {
-        let shown = seen_at(row, cabinet, file);
-        write!(f, "{shown}")?;
+        write_cell(seen_at(row, cabinet, file), f)?;
     }
     writeln!(f)
 }

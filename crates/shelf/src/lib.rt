@@ -1,11 +1,11 @@
 // A row of cabinets over lent memory.
 ghost use denote.Ref.{name, now as held-now};
-ghost use lib.ListN.{getD, length, set};
+ghost use lib.ListN.{length, set};
 ghost use mathlib.Core.Bool.{false, true};
 ghost use mathlib.Core.Path.{_≡_};
-ghost use Prim.Native.Nat.{min, _+_, _*_, _<_, _≤_};
+ghost use Prim.Native.Nat.{_+_, _*_, _<_, _≤_};
 ghost use Rattle.base.specs.Answers.{leaves};
-ghost use Rattle.base.specs.Bytes.{le-bytes, over, part, written};
+ghost use Rattle.base.specs.Bytes.{over, part, written};
 ghost use Rattle.rows.specs.Calls.{cabinet-answer, of-cabinet, of-slot, held-answer, read-answer, slot-answer, write-answer};
 ghost use Rattle.rows.specs.Model.{Condemned, Empty, Held, held, with-new, with-reach, with-slot};
 ghost use Rattle.shelf.specs.Sound.{shelf-sound};
