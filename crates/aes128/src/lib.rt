@@ -1,4 +1,6 @@
 // AES-128 behind the cipher interface. The round keys are worked out once for each key.
+#![tactic(auto)]
+
 ghost use Rattle.std.specs.Prelude.{◌≡◌, min};
 ghost use Rattle.aes128.specs.Aes.{xtime, next_key, round_key, aes};
 ghost use Rattle.aes128.specs.Columns.{state_of, RoundKeys};

@@ -7,7 +7,7 @@ ghost use Rattle.algebra.specs.Lagrange.{factor, weight, lagrange};
 use crate::field::Field;
 
 fn weight_factor<F: Field>(p: u32, q: u32, x: u32) -> u32
-    ensures { result ≡ factor ops p q x }
+    ensures { result ≡ factor F.ops p q x }
 {
     if p == q {
         1
@@ -18,7 +18,7 @@ fn weight_factor<F: Field>(p: u32, q: u32, x: u32) -> u32
 
 // What the value at the point p weighs in the value at x, among these points.
 pub fn weight<F: Field>(points: &[u32], p: u32, x: u32) -> u32
-    ensures { result ≡ weight ops (length points.now) (at points.now) p x }
+    ensures { result ≡ weight F.ops (length points.now) (at points.now) p x }
 {
     let mut product = 1;
     for q in points {
@@ -30,8 +30,8 @@ pub fn weight<F: Field>(points: &[u32], p: u32, x: u32) -> u32
 // The weight of each point in the value at x, into the front of `weights`, as many as there are points or room. From
 // differing codes they give the value at x of every polynomial of degree below the number of points.
 pub fn weights<F: Field>(points: &[u32], x: u32, weights: &mut [u32])
-    ensures fills { weights.new ≡ over (map (λ p. weight ops (length points.now) (at points.now) p x) (take (length weights.old) points.now)) weights.old }
-    ensures value { length points.now ≤ length weights.old → Interpolates ops (length points.now) (at points.now) x (at weights.new) }
+    ensures fills { weights.new ≡ over (map (λ p. weight F.ops (length points.now) (at points.now) p x) (take (length weights.old) points.now)) weights.old }
+    ensures value { length points.now ≤ length weights.old → Interpolates F.ops (length points.now) (at points.now) x (at weights.new) }
 {
     let n = points.len().min(weights.len());
     for j in 0..n {
@@ -47,8 +47,8 @@ fn value_at(values: &[u32], j: usize) -> u32
 
 // The value at x of the polynomial that has these values at these points; a value that is not given counts as 0.
 pub fn interpolate<F: Field>(points: &[u32], values: &[u32], x: u32) -> u32
-    ensures formula { result ≡ lagrange ops (length points.now) (at points.now) (at values.now) x }
-    ensures value { Points ops (length points.now) (at points.now) → ((i : ℕ) → i < length points.now → at values.now i < ops.size) → x < ops.size → ValueAt ops (length points.now) (at points.now) (at values.now) x result }
+    ensures formula { result ≡ lagrange F.ops (length points.now) (at points.now) (at values.now) x }
+    ensures value { Points F.ops (length points.now) (at points.now) → ((i : ℕ) → i < length points.now → at values.now i < F.ops.size) → x < F.ops.size → ValueAt F.ops (length points.now) (at points.now) (at values.now) x result }
 {
     let mut sum = 0;
     for j in 0..points.len() {
@@ -62,5 +62,5 @@ pub fn interpolate<F: Field>(points: &[u32], values: &[u32], x: u32) -> u32
 
 // That k values at k differing codes are those of one polynomial of degree below k, and of one only.
 pub fn one_polynomial<F: Field>()
-    ensures { OnePolynomial ops }
+    ensures { OnePolynomial F.ops }
 {}

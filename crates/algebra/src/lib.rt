@@ -1,4 +1,6 @@
 // Fields over codes, and interpolation of polynomials over any of them.
+#![tactic(auto)]
+
 pub mod field;
 pub mod interpolation;
 

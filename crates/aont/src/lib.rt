@@ -1,5 +1,7 @@
 // Sealing: Rivest's package transform of a framed file, over any cipher. A sealed file, the package, can be read only
 // whole: each of its bytes is needed to find the key, and the key is kept nowhere else.
+#![tactic(auto)]
+
 ghost use Rattle.std.specs.Prelude.{◌≡◌, ◌≤◌, length};
 ghost use Rattle.base.specs.Answers.{leaves};
 ghost use Rattle.base.specs.Bytes.{over};

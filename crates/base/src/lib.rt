@@ -1,5 +1,7 @@
 // The words that every layer's contract uses: byte lists and little-endian numbers, refusals in the order of their
 // checks, and what a call leaves in an output. They stand in specs/.
+#![tactic(auto)]
+
 ghost use Rattle.std.specs.Prelude.{◌≡◌, ◌+◌, min, length, if◌then◌else◌, nat_le, slice_index};
 ghost use Rattle.base.specs.Sizes.{misfit};
 ghost use Rattle.base.specs.Bytes.{Bytes, le_bytes, le_value, part, written};

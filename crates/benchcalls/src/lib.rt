@@ -1,5 +1,7 @@
 // Spreading, and cutting from slices, for the benchmark, which is in C and joins by the C call itself. Each exported function takes
 // the number of a field and the two figures of a plan, and answers a length, or 0 on a refusal.
+#![tactic(auto)]
+
 ghost use Rattle.std.specs.Prelude.{◌≡◌, length};
 ghost use Rattle.base.specs.Answers.{leaves};
 ghost use Rattle.base.specs.Bytes.{over};

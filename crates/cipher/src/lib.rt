@@ -1,5 +1,7 @@
 // A block cipher behind one interface. Its meaning, and its answer, is a function E from a 16-byte key and a 16-byte
 // block to a 16-byte block. A value of the type is a key whose schedule has been worked out, once for many blocks.
+#![tactic(auto)]
+
 ghost use Rattle.std.specs.Prelude.{◌≡◌, ℕ, List};
 ghost use Rattle.cipher.specs.Blocks.{Block, CipherLaws, xor};
 

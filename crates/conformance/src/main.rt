@@ -1,4 +1,6 @@
 // Packages and records of fixed files, for a second maker to make again.
+#![tactic(auto)]
+
 mod cases;
 mod hex;
 mod making;

@@ -1,4 +1,5 @@
 pub mod Reading
 pub mod Spreading
 pub mod Weighing
+pub mod Points
 pub mod RecordOf

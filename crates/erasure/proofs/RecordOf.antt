@@ -21,7 +21,8 @@ use Rattle.erasure.specs.declared.fault.SliceCause.TheVariants.{NoCabinet, Packa
 use Rattle.erasure.specs.declared.fault.SliceFault.{SliceFault}
 use Rattle.erasure.specs.Slices.{fault_of, spread_answer, cut_answer}
 use Rattle.erasure.proofs.Reading.{slices_fit}
-use Rattle.erasure.specs.Formula.{slice_of, spread, cabinet_symbol, record_of, weights_for, combined_record, record_from}
+use Rattle.erasure.specs.Formula.{slice_of, spread, cabinet_symbol, record_of, record_from, point_weights, combined_record}
+use Rattle.erasure.proofs.Points.{own_slices}
 
 module _ (C : Coding) (L : Laws C.ops) (W : Widths C.ops C.width C.stored C.number) where
   -- a symbol is a code
@@ -51,32 +52,32 @@ module _ (C : Coding) (L : Laws C.ops) (W : Widths C.ops C.width C.stored C.numb
       ∙ stored-place own v m j [] hj)
       ∙ le_value-le_bytes v (column C pkg j i) code
 
-  weights_at : (ps : ℕ → ℕ) (x i : ℕ) → i < C.needed → at (weights_for C ps x) i ≡ weight C.ops C.needed ps (ps i) x
-  unfolding weights_for
+  weights_at : (ps : ℕ → ℕ) (x i : ℕ) → i < C.needed → at (point_weights C ps x) i ≡ weight C.ops C.needed ps (ps i) x
+  unfolding point_weights
   weights_at ps x i h = get_or-map-range_with_len (λ i. weight C.ops C.needed ps (ps i) x) 0 C.needed i i 0 h (zero-add i)
 
-  count_weights : (ps : ℕ → ℕ) (x : ℕ) → length (weights_for C ps x) ≡ C.needed
-  unfolding weights_for
+  count_weights : (ps : ℕ → ℕ) (x : ℕ) → length (point_weights C ps x) ≡ C.needed
+  unfolding point_weights
   count_weights ps x = length-map-range_with_len (λ i. weight C.ops C.needed ps (ps i) x) 0 C.needed
 
   -- what is combined from slices is the formula's value
   pub combined_value : (ps vs : ℕ → ℕ) (bs : List ℕ) (stride place x : ℕ) → ((i : ℕ) → i < C.needed → stored_at C.stored bs (i * stride + place) ≡ vs i) →
-      combined_at C.ops C.stored (weights_for C ps x) bs stride place ≡ lagrange C.ops C.needed ps vs x
+      combined_at C.ops C.stored (point_weights C ps x) bs stride place ≡ lagrange C.ops C.needed ps vs x
   unfolding combined_at
   combined_value ps vs bs stride place x h =
       let f = C.ops in
-      ap (λ k. sum_to f k (λ i. f.mul (stored_at C.stored bs (i * stride + place)) (at (weights_for C ps x) i))) (count_weights ps x)
-      ∙ sum_same f L C.needed _ _ (λ i hi. ap (λ y. f.mul y (at (weights_for C ps x) i)) (h i hi) ∙ ap (f.mul (vs i)) (weights_at ps x i hi))
+      ap (λ k. sum_to f k (λ i. f.mul (stored_at C.stored bs (i * stride + place)) (at (point_weights C ps x) i))) (count_weights ps x)
+      ∙ sum_same f L C.needed _ _ (λ i hi. ap (λ y. f.mul y (at (point_weights C ps x) i)) (h i hi) ∙ ap (f.mul (vs i)) (weights_at ps x i hi))
 
   combined-symbol : (pkg rest : List ℕ) (c j : ℕ) → Bytes pkg → j < columns C (length pkg) →
-      combined_at C.ops C.stored (weights_for C (λ i. i) c) (spread C pkg ++ rest) (columns C (length pkg) * C.stored) (j * C.stored) ≡ cabinet_symbol C pkg c j
+      combined_at C.ops C.stored (point_weights C (λ i. i) c) (spread C pkg ++ rest) (columns C (length pkg) * C.stored) (j * C.stored) ≡ cabinet_symbol C pkg c j
   combined-symbol pkg rest c j bytes hj =
       combined_value (λ i. i) (column C pkg j) (spread C pkg ++ rest) (columns C (length pkg) * C.stored) (j * C.stored) c (λ i hi. spread_at pkg rest i j bytes hi hj)
 
   pub record_is : (pkg rest : List ℕ) (bytes c issue : ℕ) → Bytes pkg → bytes ≡ length pkg → record_from C bytes (spread C pkg ++ rest) c issue ≡ record_of C pkg c issue
   unfolding combined_record record_of record_with combined
   record_is pkg rest bytes c issue h e =
-      ap (λ n. record_from C n (spread C pkg ++ rest) c issue) e
+      ap (λ n. record_from C n (spread C pkg ++ rest) c issue) e ∙ own_slices C (length pkg) (spread C pkg ++ rest) c issue
       ∙ ap (λ xs. head (record_length C (length pkg)) C.number issue ++ xs)
       (pieces_same _ _ (columns C (length pkg)) (λ j hj. ap (le_bytes C.stored) (combined-symbol pkg rest c j h hj)))
 

@@ -1,9 +1,9 @@
 -- The weights that the code works out for a cabinet, and the record that it makes with them. Assumes nothing.
-use Rattle.std.proofs.Common.{◌≡◌, ℕ, ◌+◌, ◌-◌, ◌*◌, ◌/◌, ◌<◌, ◌≤◌, List, ◌++◌, map, length, take, drop, sym, refl, ap, ◌∙◌, zero-add, div-mul-le_self, mul-div_cancel, arith}
+use Rattle.std.proofs.Common.{◌≡◌, ℕ, ◌+◌, ◌-◌, ◌*◌, ◌/◌, ◌<◌, ◌≤◌, List, ◌++◌, map, length, take, drop, sym, refl, ap, ◌∙◌, zero-add, mul-div_cancel, arith}
 use native.Mathlib.Nat.{sub-zero}
 use Rattle.std.specs.List.{range_with_len}
-use Rattle.std.proofs.lemmas.List.FromFn.{fill_by_all, get_or-range_with_len, get_or-map-range_with_len, length-map-range_with_len, take-map-range_with_len}
-use Rattle.std.proofs.lemmas.List.{get_or-map, length-map, take_all, take_at, drop_at, drop_all, append-nil, length-append, length-drop, length-take}
+use Rattle.std.proofs.lemmas.List.FromFn.{get_or-range_with_len, length-range_with_len, length-map-range_with_len, take-map-range_with_len}
+use Rattle.std.proofs.lemmas.List.{map-id, take_all, take_at, drop_all, append-nil, length-append, length-drop, length-take}
 use borrow.Rule.Slice.PartMut.{put_mid, post_of}
 use Rattle.base.specs.Bytes.{over}
 use Rattle.base.proofs.Placed.{same_map}
@@ -14,35 +14,32 @@ use Rattle.algebra.specs.Lagrange.{weight}
 use Rattle.algebra.specs.Slices.{combined_at, combined}
 use Rattle.algebra.proofs.ThroughPoints.{weight_same}
 use Rattle.erasure.specs.Records.{Coding, columns, head, record_length}
-use Rattle.erasure.specs.Formula.{weights_for, combined_record}
+use Rattle.erasure.specs.Formula.{weights_for, record_from}
 
-module _ (C : Coding) (x : ℕ) where
-  pub weights_of : (ps last rest part : List ℕ) → length ps ≡ C.needed → length part ≡ C.needed →
-      last ≡ over (map (λ p. weight C.ops (length ps) (at ps) p x) (take (length part) ps)) part → take C.needed (last ++ rest) ≡ weights_for C (at ps) x
+pub front_counting : (n k : ℕ) → k ≤ n → take (k - 0) (range_with_len 0 n) ≡ range_with_len 0 k
+front_counting n k h =
+    ap (λ m. take m (range_with_len 0 n)) (sub-zero k) ∙ ap (take k) (sym (map-id (range_with_len 0 n))) ∙ take-map-range_with_len (λ x. x) 0 n k h ∙ map-id (range_with_len 0 k)
+
+module _ (C : Coding) (L : Laws C.ops) (c : ℕ) where
+  -- the formula's weights by a list of points
+  abbrev weights_by : List ℕ → List ℕ → List ℕ
+  weights_by ps part = over (map (λ p. weight C.ops (length ps) (at ps) p c) (take (length part) ps)) part
+
+  pub own_weights : (last rest part : List ℕ) → C.needed ≤ 16 → length part ≡ C.needed → last ≡ weights_by (take (C.needed - 0) (range_with_len 0 16)) part →
+      take C.needed (last ++ rest) ≡ weights_for C c
   unfolding weights_for
-  weights_of ps last rest part count long e =
+  own_weights last rest part few long e =
       let k = C.needed in
-      let g : ℕ → ℕ = λ p. weight C.ops k (at ps) p x in
-      let ws = weights_for C (at ps) x in
-      let each : map (λ p. weight C.ops (length ps) (at ps) p x) (take (length part) ps) ≡ ws =
-      ap (λ n. map (λ p. weight C.ops n (at ps) p x) (take (length part) ps)) count ∙ ap (map g) (take_all (length part) ps (omega (arith, count, long)))
-      ∙ fill_by_all (λ i. g (at ps i)) (map g ps) k 0 (length-map ps g ∙ count) (λ i l. get_or-map g ps i 0 0 (omega (arith, count))) in
-      let size : length ws ≡ k = length-map-range_with_len (λ i. g (at ps i)) 0 k in
-      let whole : last ≡ ws = e ∙ ap (λ xs. over xs part) each ∙ over_whole ws part (omega (arith, size, long)) in
-      ap (λ xs. take k (xs ++ rest)) whole ∙ take_at ws rest k size
-
-  -- the weights depend on the first k points alone
-  pub same_weights : Laws C.ops → (ps qs : ℕ → ℕ) → ((i : ℕ) → i < C.needed → ps i ≡ qs i) → weights_for C ps x ≡ weights_for C qs x
-  unfolding weights_for
-  same_weights L ps qs e =
-      let k = C.needed in same_map _ _ k (λ i h. weight_same C.ops L k ps qs (ps i) x e ∙ ap (λ p. weight C.ops k qs p x) (e i h))
-
-  -- of sixteen points, the first k
-  pub first_points : Laws C.ops → C.needed ≤ 16 → (g : ℕ → ℕ) (points : List ℕ) → points ≡ map g (range_with_len 0 16) → weights_for C (at (take (C.needed - 0) points)) x ≡ weights_for C g x
-  first_points L few g points e =
-      let k = C.needed in
-      let front : take (k - 0) points ≡ map g (range_with_len 0 k) = ap (λ n. take n points) (sub-zero k) ∙ ap (take k) e ∙ take-map-range_with_len g 0 16 k few in
-      same_weights L (at (take (k - 0) points)) g (λ i h. ap (λ xs. at xs i) front ∙ get_or-map-range_with_len g 0 k i i 0 h (zero-add i))
+      let ws = weights_for C c in
+      let point : (i : ℕ) → i < k → at (range_with_len 0 k) i ≡ i = λ i h. get_or-range_with_len 0 k i 0 h ∙ zero-add i in
+      let each : map (λ p. weight C.ops (length (range_with_len 0 k)) (at (range_with_len 0 k)) p c) (take (length part) (range_with_len 0 k)) ≡ ws =
+      ap (λ xs. map (λ p. weight C.ops (length (range_with_len 0 k)) (at (range_with_len 0 k)) p c) xs)
+      (ap (λ n. take n (range_with_len 0 k)) long ∙ take_all k (range_with_len 0 k) (omega (arith, length-range_with_len 0 k)))
+      ∙ same_map _ _ k (λ p _. ap (λ n. weight C.ops n (at (range_with_len 0 k)) p c) (length-range_with_len 0 k) ∙ weight_same C.ops L k (at (range_with_len 0 k)) (λ i. i) p c point) in
+      let count : length ws ≡ k = length-map-range_with_len (λ p. weight C.ops k (λ i. i) p c) 0 k in
+      let whole : last ≡ ws =
+      e ∙ ap (λ ps. weights_by ps part) (front_counting 16 k few) ∙ ap (λ xs. over xs part) each ∙ over_whole ws part (omega (arith, count, long)) in
+      ap (λ xs. take k (xs ++ rest)) whole ∙ take_at ws rest k count
 
 -- a head of six bytes, and then a body over all the rest of an output
 pub laid : (front out body : List ℕ) (n : ℕ) → length front ≡ 6 → length out ≡ 6 + n → length body ≡ n →
@@ -55,15 +52,26 @@ laid front out body n ef eo eb =
     ∙ ap (λ xs. front ++ (body ++ xs)) (drop_all (6 + length body) whole (omega (arith, eb, ef, eo, length-append front (drop 6 out), length-drop 6 out)))
     ∙ ap (λ xs. front ++ xs) (append-nil body)
 
--- what is left of an output after its head
-rest_is : (front out : List ℕ) → length front ≡ 6 → 6 ≤ length out → take (length (front ++ post_of 0 6 out) - 6) (drop 6 (front ++ post_of 0 6 out)) ≡ drop 6 out
-rest_is front out ef low =
+-- the rest of an output after its head
+rest_length : (front out : List ℕ) (n : ℕ) → length front ≡ 6 → length out ≡ 6 + n →
+    length (take (length (front ++ post_of 0 6 out) - 6) (drop 6 (front ++ post_of 0 6 out))) ≡ n
+rest_length front out n ef eo =
     let whole = front ++ drop 6 out in
-    ap (take (length whole - 6)) (drop_at front (drop 6 out) 6 ef)
-    ∙ take_all (length whole - 6) (drop 6 out) (omega (arith, length-append front (drop 6 out), ef, length-drop 6 out))
+    length-take (length whole - 6) (drop 6 whole) ∙ omega (arith, length-drop 6 whole, length-append front (drop 6 out), ef, eo, length-drop 6 out)
 
-over_size : (xs d : List ℕ) → length xs ≤ length d → length (over xs d) ≡ length d
-over_size xs d h = length-append xs (drop (length xs) d) ∙ omega (arith, length-drop (length xs) d)
+-- what combine leaves in it, by the code's own names of the weights and the width
+pub body_is : (f : Ops) (v : ℕ) (ws own slices front out body : List ℕ) (m width : ℕ) → 0 < v → width ≡ v → own ≡ ws → length front ≡ 6 → length out ≡ 6 + m * v →
+    body ≡ over (combined f v own slices (m * width) (length (take (length (front ++ post_of 0 6 out) - 6) (drop 6 (front ++ post_of 0 6 out))) / v))
+    (take (length (front ++ post_of 0 6 out) - 6) (drop 6 (front ++ post_of 0 6 out))) →
+    body ≡ combined f v ws slices (m * v) m
+unfolding combined
+body_is f v ws own slices front out body m width pos ew eo ef el e =
+    let part = take (length (front ++ post_of 0 6 out) - 6) (drop 6 (front ++ post_of 0 6 out)) in
+    let long : length part ≡ m * v = rest_length front out (m * v) ef el in
+    let count : length part / v ≡ m = ap (λ n. n / v) long ∙ mul-div_cancel m pos in
+    e ∙ ap (λ n. over (combined f v own slices (m * width) n) part) count ∙ ap (λ n. over (combined f v own slices (m * n) m) part) ew
+    ∙ ap (λ xs. over (combined f v xs slices (m * v) m) part) eo
+    ∙ over_whole (combined f v ws slices (m * v) m) part (omega (arith, long, length-stored (λ j. combined_at f v ws slices (m * v) (j * v)) v m))
 
 pub head_six : (whole number issue : ℕ) → length (head whole number issue) ≡ 6
 unfolding head
@@ -73,48 +81,19 @@ pub length-combined : (f : Ops) (v : ℕ) (ws slices : List ℕ) (stride n : ℕ
 unfolding combined
 length-combined f v ws slices stride n = length-stored (λ j. combined_at f v ws slices stride (j * v)) v n
 
--- what combine leaves after a head
-pub record_written : (f : Ops) (v : ℕ) (ws slices front out body : List ℕ) (stride : ℕ) → length front ≡ 6 → 6 ≤ length out →
-    body ≡ over (combined f v ws slices stride (length (take (length (front ++ post_of 0 6 out) - 6) (drop 6 (front ++ post_of 0 6 out))) / v))
-    (take (length (front ++ post_of 0 6 out) - 6) (drop 6 (front ++ post_of 0 6 out))) →
-    put_mid 6 (length (front ++ post_of 0 6 out) - 6) (front ++ post_of 0 6 out) body ≡ front ++ over (combined f v ws slices stride ((length out - 6) / v)) (drop 6 out)
-record_written f v ws slices front out body stride ef low e =
-    let n = (length out - 6) / v in
-    let whole : body ≡ over (combined f v ws slices stride n) (drop 6 out) =
-    e ∙ ap (λ xs. over (combined f v ws slices stride (length xs / v)) xs) (rest_is front out ef low)
-    ∙ ap (λ m. over (combined f v ws slices stride (m / v)) (drop 6 out)) (length-drop 6 out) in
-    let size : length body ≡ length out - 6 =
-    ap length whole ∙ over_size (combined f v ws slices stride n) (drop 6 out) (omega (arith, length-combined f v ws slices stride n, div-mul-le_self (length out - 6) v, length-drop 6 out))
-    ∙ length-drop 6 out in
-    laid front out body (length out - 6) ef (omega arith) size ∙ ap (λ xs. front ++ xs) whole
-
--- the record in the front of an output, by the code's own name of its length
-pub record_laid : (C : Coding) (bytes c issue : ℕ) (points : ℕ → ℕ) (slices out last : List ℕ) (whole stride : ℕ) → whole ≡ record_length C bytes → 0 < C.stored → whole ≤ length out →
-    last ≡ head (length (take (whole - 0) out)) C.number issue
-    ++ over (combined C.ops C.stored (weights_for C points c) slices stride ((length (take (whole - 0) out) - 6) / C.stored)) (drop 6 (take (whole - 0) out)) →
-    last ++ post_of 0 (whole - 0) out ≡ over (combined_record C bytes points slices stride c issue) out
-unfolding combined_record
-record_laid C bytes c issue points slices out last whole stride ew pos room e =
-    let v = C.stored in
-    let own = take (whole - 0) out in
-    let cols = columns C bytes in
-    let body = combined C.ops v (weights_for C points c) slices stride in
-    let front = head (record_length C bytes) C.number issue in
-    let long : length own ≡ record_length C bytes = length-take (whole - 0) out ∙ omega arith in
-    let count : (length own - 6) / v ≡ cols = ap (λ n. (n - 6) / v) long ∙ ap (λ n. n / v) (omega arith) ∙ mul-div_cancel cols pos in
-    let is : last ≡ front ++ body cols =
-    e ∙ ap (λ n. head n C.number issue ++ over (body ((length own - 6) / v)) (drop 6 own)) long
-    ∙ ap (λ n. front ++ over (body n) (drop 6 own)) count
-    ∙ ap (λ xs. front ++ xs) (over_whole (body cols) (drop 6 own) (omega (arith, length-combined C.ops v (weights_for C points c) slices stride cols, length-drop 6 own, long))) in
-    let size : length last ≡ whole =
-    ap length is ∙ length-append front (body cols) ∙ ap (λ n. n + length (body cols)) (head_six (record_length C bytes) C.number issue)
-    ∙ ap (λ n. 6 + n) (length-combined C.ops v (weights_for C points c) slices stride cols) ∙ sym ew in
-    ap (λ n. last ++ drop n out) (sub-zero whole ∙ sym size) ∙ ap (λ xs. over xs out) is
-
--- a record from a package's own symbols
-pub own_record : (C : Coding) (bytes c issue : ℕ) (slices : List ℕ) (stride : ℕ) → Laws C.ops → C.needed ≤ 16 →
-    combined_record C bytes (at (range_with_len 0 16)) slices stride c issue ≡ combined_record C bytes (λ i. i) slices stride c issue
-unfolding combined_record
-own_record C bytes c issue slices stride L few =
-    ap (λ ws. head (record_length C bytes) C.number issue ++ combined C.ops C.stored ws slices stride (columns C bytes))
-    (same_weights C c L (at (range_with_len 0 16)) (λ i. i) (λ i h. get_or-range_with_len 0 16 i 0 (omega arith) ∙ zero-add i))
+-- the record in the front of an output, by the code's own names of the columns and the width
+pub record_laid : (C : Coding) (bytes c issue : ℕ) (slices out last : List ℕ) (m width : ℕ) → m ≡ columns C bytes → width ≡ C.stored → 6 + m * width ≤ length out →
+    last ≡ head (length (take (6 + m * width - 0) out)) C.number issue ++ combined C.ops C.stored (weights_for C c) slices (m * C.stored) m →
+    last ++ post_of 0 (6 + m * width - 0) out ≡ over (record_from C bytes slices c issue) out
+unfolding record_from
+record_laid C bytes c issue slices out last m width em ew room e =
+    let whole : 6 + m * width ≡ record_length C bytes = ap (λ n. 6 + m * n) ew ∙ ap (λ n. 6 + n * C.stored) em in
+    let long : length (take (6 + m * width - 0) out) ≡ record_length C bytes = length-take (6 + m * width - 0) out ∙ omega arith in
+    let own : last ≡ record_from C bytes slices c issue =
+    e ∙ ap (λ n. head n C.number issue ++ combined C.ops C.stored (weights_for C c) slices (m * C.stored) m) long
+    ∙ ap (λ n. head (record_length C bytes) C.number issue ++ combined C.ops C.stored (weights_for C c) slices (n * C.stored) n) em in
+    let size : length last ≡ 6 + m * width =
+    ap length own ∙ length-append (head (record_length C bytes) C.number issue) _
+    ∙ ap (λ n. n + length (combined C.ops C.stored (weights_for C c) slices (columns C bytes * C.stored) (columns C bytes))) (head_six (record_length C bytes) C.number issue)
+    ∙ ap (λ n. 6 + n) (length-combined C.ops C.stored (weights_for C c) slices (columns C bytes * C.stored) (columns C bytes)) ∙ sym whole in
+    ap (λ n. last ++ drop n out) (sub-zero (6 + m * width) ∙ sym size) ∙ ap (λ xs. over xs out) own

@@ -22,14 +22,20 @@ cabinet_symbol C pkg c j = lagrange C.ops C.needed (λ i. i) (column C pkg j) c
 unfoldable pub record_of : Coding → List ℕ → ℕ → ℕ → List ℕ
 record_of C pkg c issue = record_with C (length pkg) issue (cabinet_symbol C pkg c)
 
--- what each of the points weighs in the value at x
-unfoldable pub weights_for : Coding → (ℕ → ℕ) → ℕ → List ℕ
-weights_for C points x = map (λ i. weight C.ops C.needed points (points i) x) (range_with_len 0 C.needed)
+-- the weights of the column's own symbols in the symbol of cabinet c, and that cabinet's record from the slices
+unfoldable pub weights_for : Coding → ℕ → List ℕ
+weights_for C c = map (λ p. weight C.ops C.needed (λ i. i) p c) (range_with_len 0 C.needed)
 
--- the record of cabinet c from slices of the symbols at the points, where slice i begins at i × stride; and from a package's
+unfoldable pub record_from : Coding → ℕ → List ℕ → ℕ → ℕ → List ℕ
+record_from C bytes slices c issue =
+    head (record_length C bytes) C.number issue
+    ++ combined C.ops C.stored (weights_for C c) slices (columns C bytes * C.stored) (columns C bytes)
+
+-- what each of the points weighs in the value at x
+unfoldable pub point_weights : Coding → (ℕ → ℕ) → ℕ → List ℕ
+point_weights C points x = map (λ i. weight C.ops C.needed points (points i) x) (range_with_len 0 C.needed)
+
+-- the record of cabinet c from slices of the symbols at the points, where slice i begins at i × stride
 unfoldable pub combined_record : Coding → ℕ → (ℕ → ℕ) → List ℕ → ℕ → ℕ → ℕ → List ℕ
 combined_record C bytes points slices stride c issue =
-    head (record_length C bytes) C.number issue ++ combined C.ops C.stored (weights_for C points c) slices stride (columns C bytes)
-
-abbrev pub record_from : Coding → ℕ → List ℕ → ℕ → ℕ → List ℕ
-record_from C bytes slices c issue = combined_record C bytes (λ i. i) slices (columns C bytes * C.stored) c issue
+    head (record_length C bytes) C.number issue ++ combined C.ops C.stored (point_weights C points c) slices stride (columns C bytes)

@@ -1,97 +1,49 @@
-ghost use Rattle.std.specs.Prelude.{◌≡◌, ◌-◌, ◌*◌, ◌/◌, ◌<◌, ◌≤◌, true, false, ◌++◌, map, length, take, drop, MatchOption};
-ghost use Rattle.std.specs.List.{range_with_len};
-ghost use Rattle.base.specs.Bytes.{over};
-ghost use Rattle.base.specs.Sizes.{misfit};
-ghost use Rattle.algebra.specs.Polynomials.{at};
+ghost use Rattle.std.specs.Prelude.{◌≡◌, ◌+◌, ◌*◌, ◌<◌, ◌≤◌, ◌++◌, length, take};
 ghost use Rattle.algebra.specs.Slices.{combined};
-ghost use Rattle.erasure.specs.Records.{coding, head, record_length};
+ghost use Rattle.erasure.specs.Records.{coding, head};
 ghost use Rattle.erasure.specs.Formula.{weights_for};
 
 use crate::head::Head;
-use crate::plan::Plan;
 use algebra::{Field, weights};
-use base::{byte_at, is_misfit};
 
-// The length of each record of a package of so many bytes, or nothing where no package has that length. What k records hold
-// behind their heads takes 6,400 bytes at most.
-pub fn record_length<F: Field>(plan: &Plan, bytes: usize) -> Option<usize>
-    ensures { MatchOption result (misfit bytes ≡ true) (λ x. (misfit bytes ≡ false) × (x ≡ record_length (coding ops width stored number plan.now.k) bytes) × (plan.now.k * (x - 6) ≤ 6400)) }
-{
-    if is_misfit(bytes) {
-        return None;
-    }
-    let k = plan.needed();
-    let columns = (bytes / F::data_width() + (k - 1)) / k;
-    Some(6 + columns * F::stored_width())
-}
+const POINTS: [u32; 16] = [0, 1, 2, 3, 4, 5, 6, 7, 8, 9, 10, 11, 12, 13, 14, 15];
 
-// The positions as points; one that is not given counts as 0.
-fn points_of(positions: &[u8]) -> [u32; 16]
-    ensures { result ≡ map (at positions.now) (range_with_len 0 16) }
+// What each symbol of a column weighs in the symbol of a cabinet: the first k numbers.
+fn own_weights<F: Field>(k: usize, cabinet: usize) -> [u32; 16]
+    requires { (k ≤ 16) × (cabinet < 16) }
+    ensures { take k result ≡ weights_for (coding F.ops F.width F.stored F.number k) cabinet }
 {
-    let mut points = [0u32; 16];
-    for i in 0..16usize {
-        points[i] = u32::from(byte_at(positions, i));
-    }
-    points
-}
-
-// What each of the first k positions weighs in the value at x.
-fn weights_of<F: Field>(k: usize, positions: &[u8], x: u32) -> [u32; 16]
-    requires { k ≤ 16 }
-    ensures { take k result ≡ weights_for (coding ops width stored number k) (at positions.now) x }
-{
-    let points = points_of(positions);
     let mut all = [0u32; 16];
-    weights::<F>(&points[0..k], x, &mut all[0..k]);
+    weights::<F>(&POINTS[0..k], cabinet as u32, &mut all[0..k]);
     all
 }
 
-// Writes the symbols at code x over the output, as many as it has room for, from slices of the symbols at k positions. Slice i
-// begins at i times the stride; a position that is not given counts as 0, and so does a byte past the end of the slices.
-pub fn symbols_at<F: Field>(
-    plan: &Plan,
-    positions: &[u8],
-    slices: &[u8],
-    stride: usize,
-    x: u32,
-    out: &mut [u8],
-)
-    ensures { out.new ≡ over (combined ops stored (weights_for (coding ops width stored number plan.now.k) (at positions.now) x) slices.now stride (length out.old / stored)) out.old }
-{
-    let k = plan.needed();
-    let all = weights_of::<F>(k, positions, x);
-    F::combine(&all[0..k], slices, stride, out);
-}
-
-// Writes the record of a cabinet into an output of just its length, from slices of the symbols at k positions, where slice i
-// begins at i times the stride.
+// Writes the record of a cabinet, from the slices of a package, into an output of just its length.
 pub(crate) fn write_record<F: Field>(
-    plan: &Plan,
-    positions: &[u8],
+    k: usize,
+    columns: usize,
     slices: &[u8],
-    stride: usize,
     cabinet: usize,
     issue: u16,
     out: &mut [u8],
 )
+    requires few { k ≤ 16 }
     requires fitted { cabinet < 16 }
-    requires headed { 6 ≤ length out.old }
+    requires whole { length out.old ≡ 6 + columns * F.stored }
     requires small { length out.old < 65536 }
-    ensures { out.new ≡ head (length out.old) number issue ++ over (combined ops stored (weights_for (coding ops width stored number plan.now.k) (at positions.now) cabinet) slices.now stride ((length out.old - 6) / stored)) (drop 6 out.old) }
+    ensures { out.new ≡ head (length out.old) F.number issue ++ combined F.ops F.stored (weights_for (coding F.ops F.width F.stored F.number k) cabinet) slices.now (columns * F.stored) columns }
 {
+    let all = own_weights::<F>(k, cabinet);
     let head = Head {
         whole: out.len() as u16,
         number: F::field_number(),
         issue,
     };
     out[0..6].copy_from_slice(&head.to_bytes());
-    symbols_at::<F>(
-        plan,
-        positions,
+    F::combine(
+        &all[0..k],
         slices,
-        stride,
-        cabinet as u32,
+        columns * F::stored_width(),
         &mut out[6..],
     );
 }

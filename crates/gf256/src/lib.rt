@@ -1,4 +1,6 @@
 // GF(256).
+#![tactic(auto)]
+
 ghost use Rattle.std.specs.Prelude.{◌≡◌, ◌<◌};
 ghost use Rattle.algebra.specs.Fields.{code, inverse};
 ghost use Rattle.binary.specs.Binary.{product};

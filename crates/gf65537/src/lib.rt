@@ -1,4 +1,6 @@
 // GF(65537).
+#![tactic(auto)]
+
 ghost use Rattle.std.specs.Prelude.{◌≡◌, ◌+◌, ◌-◌, ◌%◌, ◌<◌};
 ghost use Rattle.algebra.specs.Fields.{code, inverse};
 ghost use Rattle.gf65537.specs.Gf65537.{gf65537, times};

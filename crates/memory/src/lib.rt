@@ -1,4 +1,6 @@
 // Working memory that a caller lends for one call, and the guard that wipes it.
+#![tactic(auto)]
+
 ghost use Rattle.std.specs.Prelude.{◌≡◌, length};
 ghost use Rattle.memory.specs.Zeros.{short, zeroed};
 

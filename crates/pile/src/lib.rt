@@ -1,4 +1,6 @@
 // Two rows end to end, as one.
+#![tactic(auto)]
+
 ghost use Rattle.std.specs.Prelude.{◌≡◌, ◌+◌, ◌-◌, ◌≤◌, min};
 ghost use Rattle.pile.specs.Piled.{naming, piled, piled_sound};
 

@@ -56,8 +56,8 @@ pub(crate) fn positions_fit(k: usize, n: usize, positions: &[u8]) -> bool
 
 // Whether the record that begins at a place has the due head, with the first record's issue.
 fn head_fits<F: Field>(k: usize, bytes: usize, whole: usize, records: &[u8], place: usize) -> bool
-    requires { (whole ≡ record_length (coding ops width stored number k) bytes) × (place + 6 ≤ length records.now) }
-    ensures { result ≡ head_fits (coding ops width stored number k) bytes records.now place }
+    requires { (whole ≡ record_length (coding F.ops F.width F.stored F.number k) bytes) × (place + 6 ≤ length records.now) }
+    ensures { result ≡ head_fits (coding F.ops F.width F.stored F.number k) bytes records.now place }
 {
     usize::from(u16_at(records, place)) == whole
         && u16_at(records, place + 2) == F::field_number()
@@ -65,10 +65,10 @@ fn head_fits<F: Field>(k: usize, bytes: usize, whole: usize, records: &[u8], pla
 }
 
 fn heads_fit<F: Field>(k: usize, bytes: usize, whole: usize, records: &[u8]) -> bool
-    requires due { whole ≡ record_length (coding ops width stored number k) bytes }
+    requires due { whole ≡ record_length (coding F.ops F.width F.stored F.number k) bytes }
     requires long { length records.now ≡ k * whole }
     requires head { 6 ≤ whole }
-    ensures { result ≡ every k (λ i. head_fits (coding ops width stored number k) bytes records.now (i * record_length (coding ops width stored number k) bytes)) }
+    ensures { result ≡ every k (λ i. head_fits (coding F.ops F.width F.stored F.number k) bytes records.now (i * record_length (coding F.ops F.width F.stored F.number k) bytes)) }
 {
     for i in 0..k {
         if !head_fits::<F>(k, bytes, whole, records, i * whole) {
@@ -81,9 +81,9 @@ fn heads_fit<F: Field>(k: usize, bytes: usize, whole: usize, records: &[u8]) -> 
 // Whether there are k records end to end, of the due length and number and of one issue, not 0.
 pub(crate) fn records_fit<F: Field>(k: usize, bytes: usize, whole: usize, records: &[u8]) -> bool
     requires few { k ≤ 16 }
-    requires due { whole ≡ record_length (coding ops width stored number k) bytes }
+    requires due { whole ≡ record_length (coding F.ops F.width F.stored F.number k) bytes }
     requires small { whole ≤ 6406 }
-    ensures { result ≡ records_fit (coding ops width stored number k) bytes records.now }
+    ensures { result ≡ records_fit (coding F.ops F.width F.stored F.number k) bytes records.now }
 {
     records.len() == k * whole
         && u16_at(records, 4) != 0
@@ -91,15 +91,15 @@ pub(crate) fn records_fit<F: Field>(k: usize, bytes: usize, whole: usize, record
 }
 
 fn is_code<F: Field>(records: &[u8], place: usize) -> bool
-    ensures { result ≡ nat_lt (stored_at stored records.now place) ops.size }
+    ensures { result ≡ nat_lt (stored_at F.stored records.now place) F.ops.size }
 {
     le_at(records, place, F::stored_width()) < F::size()
 }
 
 // Whether each number of one record, from a place on, is a code.
 fn record_codes_fit<F: Field>(count: usize, records: &[u8], place: usize) -> bool
-    requires { place + count * stored ≤ length records.now }
-    ensures { result ≡ every count (λ j. ltb (stored_at stored records.now (place + j * stored)) ops.size) }
+    requires { place + count * F.stored ≤ length records.now }
+    ensures { result ≡ every count (λ j. ltb (stored_at F.stored records.now (place + j * F.stored)) F.ops.size) }
 {
     for j in 0..count {
         if !is_code::<F>(records, place + j * F::stored_width()) {
@@ -112,10 +112,10 @@ fn record_codes_fit<F: Field>(count: usize, records: &[u8], place: usize) -> boo
 // Whether each number of all records is a code.
 pub(crate) fn codes_fit<F: Field>(k: usize, bytes: usize, count: usize, records: &[u8]) -> bool
     requires few { k ≤ 16 }
-    requires due { count ≡ columns (coding ops width stored number k) bytes }
-    requires small { count * stored ≤ 6400 }
-    requires long { length records.now ≡ k * record_length (coding ops width stored number k) bytes }
-    ensures { result ≡ codes_fit (coding ops width stored number k) bytes records.now }
+    requires due { count ≡ columns (coding F.ops F.width F.stored F.number k) bytes }
+    requires small { count * F.stored ≤ 6400 }
+    requires long { length records.now ≡ k * record_length (coding F.ops F.width F.stored F.number k) bytes }
+    ensures { result ≡ codes_fit (coding F.ops F.width F.stored F.number k) bytes records.now }
 {
     let whole = 6 + count * F::stored_width();
     for i in 0..k {

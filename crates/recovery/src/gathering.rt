@@ -11,7 +11,7 @@ use base::{le_at, put_le};
 
 // The least number that is no symbol of a package: past its end only 0 is one.
 fn symbol_limit<F: Field>(within: bool) -> u32
-    ensures { result ≡ (if within then 256 ^ width else 1) }
+    ensures { result ≡ (if within then 256 ^ F.width else 1) }
 {
     if !within {
         return 1;
@@ -20,14 +20,14 @@ fn symbol_limit<F: Field>(within: bool) -> u32
 }
 
 fn symbol_fits<F: Field>(slices: &[u8], place: usize, within: bool) -> bool
-    ensures { result ≡ nat_lt (stored_at stored slices.now place) (if within then 256 ^ width else 1) }
+    ensures { result ≡ nat_lt (stored_at F.stored slices.now place) (if within then 256 ^ F.width else 1) }
 {
     le_at(slices, place, F::stored_width()) < symbol_limit::<F>(within)
 }
 
 fn column_fits<F: Field>(k: usize, symbols: usize, size: usize, slices: &[u8], j: usize) -> bool
     requires { (k ≤ 16) × ((size ≤ 6400) × (j ≤ 6400)) }
-    ensures { result ≡ every k (column_whole (coding ops width stored number k) symbols size slices.now j) }
+    ensures { result ≡ every k (column_whole (coding F.ops F.width F.stored F.number k) symbols size slices.now j) }
 {
     for i in 0..k {
         if !symbol_fits::<F>(
@@ -50,7 +50,7 @@ pub(crate) fn slices_fit<F: Field>(
     slices: &[u8],
 ) -> bool
     requires { (k ≤ 16) × ((size ≤ 6400) × (columns ≤ 6400)) }
-    ensures { result ≡ slices_whole (coding ops width stored number k) symbols columns size slices.now }
+    ensures { result ≡ slices_whole (coding F.ops F.width F.stored F.number k) symbols columns size slices.now }
 {
     for j in 0..columns {
         if !column_fits::<F>(k, symbols, size, slices, j) {
@@ -64,7 +64,7 @@ pub(crate) fn slices_fit<F: Field>(
 // which are counted since a division for each would take most of the time.
 pub(crate) fn gather<F: Field>(k: usize, size: usize, slices: &[u8], out: &mut [u8])
     requires { (1 ≤ k) × ((k ≤ 16) × ((size ≤ 6400) × (length out.old ≤ 4128))) }
-    ensures { out.new ≡ over (gathered (coding ops width stored number k) size slices.now (length out.old / width)) out.old }
+    ensures { out.new ≡ over (gathered (coding F.ops F.width F.stored F.number k) size slices.now (length out.old / F.width)) out.old }
 {
     let width = F::data_width();
     let stored = F::stored_width();

@@ -20,8 +20,8 @@ fn check_records<F: Field>(
     records: &[u8],
     named: Option<usize>,
 ) -> Result<usize, SliceFault>
-    ensures answers { result ≡ given_records (coding ops width stored number plan.now.k) plan.now.n bytes positions.now records.now named (Ok (columns (coding ops width stored number plan.now.k) bytes)) }
-    ensures facts { IfOk result (Given (coding ops width stored number plan.now.k) plan.now.n bytes positions.now records.now) }
+    ensures answers { result ≡ given_records (coding F.ops F.width F.stored F.number plan.now.k) plan.now.n bytes positions.now records.now named (Ok (columns (coding F.ops F.width F.stored F.number plan.now.k) bytes)) }
+    ensures facts { IfOk result (Given (coding F.ops F.width F.stored F.number plan.now.k) plan.now.n bytes positions.now records.now) }
 {
     let Some(whole) = record_length::<F>(plan, bytes) else {
         return refused(SliceCause::PackageMisfit, named);
@@ -43,9 +43,9 @@ fn rebuild_checked<F: Field>(
     cabinet: usize,
     out: &mut [u8],
 ) -> Result<usize, SliceFault>
-    requires { Given (coding ops width stored number plan.now.k) plan.now.n bytes positions.now records.now columns }
-    ensures answers { result ≡ rebuild_rest (coding ops width stored number plan.now.k) plan.now.n bytes records.now cabinet (length out.old) }
-    ensures fills { out.new ≡ leaves result out.old (over (rebuilt (coding ops width stored number plan.now.k) bytes positions.now records.now cabinet) out.old) }
+    requires { Given (coding F.ops F.width F.stored F.number plan.now.k) plan.now.n bytes positions.now records.now columns }
+    ensures answers { result ≡ rebuild_rest (coding F.ops F.width F.stored F.number plan.now.k) plan.now.n bytes records.now cabinet (length out.old) }
+    ensures fills { out.new ≡ leaves result out.old (over (rebuilt (coding F.ops F.width F.stored F.number plan.now.k) bytes positions.now records.now cabinet) out.old) }
 {
     let named = Some(cabinet);
     if cabinet >= plan.fitted() {
@@ -80,9 +80,9 @@ pub fn rebuild<F: Field>(
     cabinet: usize,
     out: &mut [u8],
 ) -> Result<usize, SliceFault>
-    ensures answers { result ≡ rebuild_answer (coding ops width stored number plan.now.k) plan.now.n bytes positions.now records.now cabinet (length out.old) }
-    ensures fills { out.new ≡ leaves result out.old (over (rebuilt (coding ops width stored number plan.now.k) bytes positions.now records.now cabinet) out.old) }
-    ensures exact { Rebuilds (coding ops width stored number plan.now.k) plan.now.n bytes positions.now records.now cabinet }
+    ensures answers { result ≡ rebuild_answer (coding F.ops F.width F.stored F.number plan.now.k) plan.now.n bytes positions.now records.now cabinet (length out.old) }
+    ensures fills { out.new ≡ leaves result out.old (over (rebuilt (coding F.ops F.width F.stored F.number plan.now.k) bytes positions.now records.now cabinet) out.old) }
+    ensures exact { Rebuilds (coding F.ops F.width F.stored F.number plan.now.k) plan.now.n bytes positions.now records.now cabinet }
 {
     match check_records::<F>(plan, bytes, positions, records, Some(cabinet)) {
         Ok(columns) => rebuild_checked::<F>(plan, bytes, columns, positions, records, cabinet, out),
@@ -98,8 +98,8 @@ fn recover<F: Field>(
     positions: &[u8],
     records: &[u8],
 ) -> [u8; 6400]
-    requires { Given (coding ops width stored number plan.now.k) plan.now.n bytes positions.now records.now columns }
-    ensures { result ≡ over (recovered (coding ops width stored number plan.now.k) positions.now (drop 6 records.now) (record_length (coding ops width stored number plan.now.k) bytes) (columns)) (replicate 6400 0) }
+    requires { Given (coding F.ops F.width F.stored F.number plan.now.k) plan.now.n bytes positions.now records.now columns }
+    ensures { result ≡ over (recovered (coding F.ops F.width F.stored F.number plan.now.k) positions.now (drop 6 records.now) (record_length (coding F.ops F.width F.stored F.number plan.now.k) bytes) (columns)) (replicate 6400 0) }
 {
     let mut slices = [0u8; 6400];
     let size = columns * F::stored_width();
@@ -125,9 +125,9 @@ fn join_checked<F: Field>(
     records: &[u8],
     out: &mut [u8],
 ) -> Result<usize, SliceFault>
-    requires { Given (coding ops width stored number plan.now.k) plan.now.n bytes positions.now records.now columns }
-    ensures answers { result ≡ join_rest (coding ops width stored number plan.now.k) bytes positions.now records.now (length out.old) }
-    ensures fills { out.new ≡ leaves result out.old (over (package_from (coding ops width stored number plan.now.k) bytes positions.now records.now) out.old) }
+    requires { Given (coding F.ops F.width F.stored F.number plan.now.k) plan.now.n bytes positions.now records.now columns }
+    ensures answers { result ≡ join_rest (coding F.ops F.width F.stored F.number plan.now.k) bytes positions.now records.now (length out.old) }
+    ensures fills { out.new ≡ leaves result out.old (over (package_from (coding F.ops F.width F.stored F.number plan.now.k) bytes positions.now records.now) out.old) }
 {
     let k = plan.needed();
     if !codes_fit::<F>(k, bytes, columns, records) {
@@ -156,9 +156,9 @@ pub fn join<F: Field>(
     records: &[u8],
     out: &mut [u8],
 ) -> Result<usize, SliceFault>
-    ensures answers { result ≡ join_answer (coding ops width stored number plan.now.k) plan.now.n bytes positions.now records.now (length out.old) }
-    ensures fills { out.new ≡ leaves result out.old (over (package_from (coding ops width stored number plan.now.k) bytes positions.now records.now) out.old) }
-    ensures exact { Joins (coding ops width stored number plan.now.k) plan.now.n bytes positions.now records.now }
+    ensures answers { result ≡ join_answer (coding F.ops F.width F.stored F.number plan.now.k) plan.now.n bytes positions.now records.now (length out.old) }
+    ensures fills { out.new ≡ leaves result out.old (over (package_from (coding F.ops F.width F.stored F.number plan.now.k) bytes positions.now records.now) out.old) }
+    ensures exact { Joins (coding F.ops F.width F.stored F.number plan.now.k) plan.now.n bytes positions.now records.now }
 {
     match check_records::<F>(plan, bytes, positions, records, None) {
         Ok(columns) => join_checked::<F>(plan, bytes, columns, positions, records, out),

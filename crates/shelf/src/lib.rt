@@ -1,4 +1,6 @@
 // A row of cabinets over lent memory.
+#![tactic(auto)]
+
 ghost use Rattle.std.specs.Prelude.{◌≡◌, ◌+◌, ◌*◌, ◌<◌, ◌≤◌, true, false, length, IfOk, Ok, slice_set};
 ghost use Rattle.base.specs.Answers.{leaves};
 ghost use Rattle.base.specs.Bytes.{over, part, written};

@@ -31,8 +31,8 @@ fn join_over<F: Field>(
     records: &[u8],
     sealed: &mut [u8],
 ) -> Result<usize, SliceFault>
-    ensures answers { result ≡ join_answer (coding ops width stored number plan.now.k) plan.now.n (length sealed.old) positions.now records.now (length sealed.old) }
-    ensures fills { OnOk result (sealed.new ≡ package_from (coding ops width stored number plan.now.k) (length sealed.old) positions.now records.now) }
+    ensures answers { result ≡ join_answer (coding F.ops F.width F.stored F.number plan.now.k) plan.now.n (length sealed.old) positions.now records.now (length sealed.old) }
+    ensures fills { OnOk result (sealed.new ≡ package_from (coding F.ops F.width F.stored F.number plan.now.k) (length sealed.old) positions.now records.now) }
 {
     join::<F>(plan, sealed.len(), positions, records, sealed)
 }

@@ -1,4 +1,6 @@
 // A site: eight files kept in the cabinets of a row, any k of n of which restore each.
+#![tactic(auto)]
+
 mod cabinets;
 mod checks;
 mod collecting;

@@ -49,9 +49,9 @@ fn write_at<R: Row, F: Field>(
     requires there { file < 8 }
     requires issued { 1 ≤ issue }
     requires fits { misfit size ≡ false }
-    requires room { record_length (coding ops width stored number plan.now.k) size ≤ (R.ReadRow.model row.old).room }
+    requires room { record_length (coding F.ops F.width F.stored F.number plan.now.k) size ≤ (R.ReadRow.model row.old).room }
     requires memory { 6400 ≤ length out.old }
-    ensures { R.ReadRow.model row.new ≡ with_slot (R.ReadRow.model row.old) cabinet file (Held (record_from (coding ops width stored number plan.now.k) size slices.now cabinet issue)) }
+    ensures { R.ReadRow.model row.new ≡ with_slot (R.ReadRow.model row.old) cabinet file (Held (record_from (coding F.ops F.width F.stored F.number plan.now.k) size slices.now cabinet issue)) }
 {
     if let Ok(whole) = cut_spread::<F>(plan, size, slices, cabinet, issue, out) {
         let _ = row.write(cabinet, file, &out[0..whole]);
@@ -71,9 +71,9 @@ fn write_all<R: Row, F: Field>(
     requires there { file < 8 }
     requires issued { 1 ≤ issue }
     requires fits { misfit size ≡ false }
-    requires room { record_length (coding ops width stored number plan.now.k) size ≤ (R.ReadRow.model row.old).room }
+    requires room { record_length (coding F.ops F.width F.stored F.number plan.now.k) size ≤ (R.ReadRow.model row.old).room }
     requires memory { 6400 ≤ length out.old }
-    ensures { R.ReadRow.model row.new ≡ with_slots (R.ReadRow.model row.old) (λ c. nat_lt c plan.now.n && (R.ReadRow.model row.old).reach c) file (λ c. Held (record_from (coding ops width stored number plan.now.k) size slices.now c issue)) }
+    ensures { R.ReadRow.model row.new ≡ with_slots (R.ReadRow.model row.old) (λ c. nat_lt c plan.now.n && (R.ReadRow.model row.old).reach c) file (λ c. Held (record_from (coding F.ops F.width F.stored F.number plan.now.k) size slices.now c issue)) }
 {
     for c in 0..plan.fitted() {
         if in_reach(row, c) {

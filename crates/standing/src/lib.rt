@@ -1,5 +1,7 @@
 // Which cabinets of a row stand for a file: those in reach whose slot holds the record that is due. A cabinet that does not
 // stand has one cause, the first that holds of away, condemned, empty and old.
+#![tactic(auto)]
+
 pub mod cause;
 pub mod gathering;
 pub mod lowest;

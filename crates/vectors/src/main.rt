@@ -1,4 +1,6 @@
 // Published vectors and packages beside what this library computes, for a person to read.
+#![tactic(auto)]
+
 use report::Report;
 use std::io;
 

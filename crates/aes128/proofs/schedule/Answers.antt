@@ -11,10 +11,10 @@ pub loop-i-preserved : goal.loop-i-preserved
 unfolding rcon round_key
 loop-i-preserved c =
     let inv = c.loop-i.invariant in (
-      begun_more c.args.key.now c.loop-i.round-keys c.loop-i.i c.read.result c.loop-i-test.true inv.0 (c.read.ensures ∙ inv.1),
-      rw add-one (c.next-key-k.ensures ∙ simp (inv.1, inv.2)),
+      begun_more c.args.key.now c.loop-i.round_keys c.loop-i.i c.read.result c.loop-i-test.true inv.0 (c.read.ensures ∙ inv.1),
+      rw add-one (c.next_key-k.ensures ∙ simp (inv.1, inv.2)),
       rw add-one (c.double-constant.ensures ∙ ap xtime inv.2),
     )
 
 pub returns : goal.returns
-returns c = begun_all c.args.key.now c.loop-i.round-keys c.loop-i.i c.loop-i-test.false c.loop-i.invariant.0
+returns c = begun_all c.args.key.now c.loop-i.round_keys c.loop-i.i c.loop-i-test.false c.loop-i.invariant.0

@@ -9,6 +9,6 @@ returns c =
     let bs = c.args.bytes.now in
     let width = c.min-width.result in
     let few : length (part bs c.args.at width) ≤ 4 = rw length-take (omega (arith, c.min-width.ensures)) in
-    c.from-le-bytes.ensures
-    ∙ simp (c.byte-of-part.ensures, c.byte-of-part-2.ensures, c.byte-of-part-3.ensures, c.byte-of-part-4.ensures) (sym (le_value_four (part bs c.args.at width) few))
+    c.from_le_bytes.ensures
+    ∙ simp (c.byte_of_part.ensures, c.byte_of_part-2.ensures, c.byte_of_part-3.ensures, c.byte_of_part-4.ensures) (sym (le_value_four (part bs c.args.at width) few))
     ∙ ap (λ m. le_value (part bs c.args.at m)) c.min-width.ensures

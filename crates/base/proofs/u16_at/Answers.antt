@@ -8,4 +8,4 @@ pub returns : goal.returns
 returns c =
     let bs = c.args.bytes.now in
     let few : length (part bs c.args.at 2) ≤ 2 = rw length-take (omega arith) in
-    c.from-le-bytes.ensures ∙ simp (c.byte-of-part.ensures, c.byte-of-part-2.ensures) (sym (le_value_two (part bs c.args.at 2) few))
+    c.from_le_bytes.ensures ∙ simp (c.byte_of_part.ensures, c.byte_of_part-2.ensures) (sym (le_value_two (part bs c.args.at 2) few))

@@ -13,4 +13,4 @@ pub returns : goal.returns
 returns c =
     let e = c.exponent.ensures in
     let low : c.exponent.result ≤ 255 = omega (arith, e.small) in
-    c.power-of-two.ensures ∙ power-inverse c.args.a c.exponent.result c.ranges.a.fits low e.value
+    c.power_of_two.ensures ∙ power-inverse c.args.a c.exponent.result c.ranges.a.fits low e.value

@@ -8,6 +8,6 @@ returns c =
     let buffer = c.args.buffer.now in
     let at = c.args.at in
     let n = c.args.n in
-    let same : c.copy-from-slice.new.self ≡ part xs at n = c.copy-from-slice.ensures.after ∙ ap (λ k. take k (drop at xs)) (omega arith) in
+    let same : c.copy_from_slice.new.self ≡ part xs at n = c.copy_from_slice.ensures.after ∙ ap (λ k. take k (drop at xs)) (omega arith) in
     let rest : n - 0 ≡ length (part xs at n) = simp (length-take, length-drop) (omega arith) in
     ap (λ p. p ++ drop (n - 0) buffer) same ∙ ap (λ k. part xs at n ++ drop k buffer) rest

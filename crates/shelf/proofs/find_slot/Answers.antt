@@ -5,8 +5,8 @@ use Rattle.shelf.specs.Within.{place-within}
 use Rattle.shelf.proofs.Slots.{shelved_count}
 use Rattle.shelf.proofs.find_slot.Goals as goal
 
-pub returns-then-cabinet-cabinets-in : goal.returns-then-cabinet-cabinets-in
-returns-then-cabinet-cabinets-in c =
+pub returns-then-cabinet-cabinets_in : goal.returns-then-cabinet-cabinets_in
+returns-then-cabinet-cabinets_in c =
     let xs = c.args.memory.now in
     let next = Ok (place c.args.room c.args.cabinet c.args.file) in
     record {
@@ -20,7 +20,7 @@ returns-then-file-ge8 c =
     let xs = c.args.memory.now in
     let next = Ok (place c.args.room c.args.cabinet c.args.file) in
     record {
-      answers = ap Err c.of-slot-then-file-ge8.ensures
+      answers = ap Err c.of_slot-then-file-ge8.ensures
           ∙ sym (no_file-of_slot (shelved xs c.args.room) c.args.cabinet next c.args.file (omega (arith, shelved_count xs c.args.room)) (omega arith));
       within = tt;
     }
@@ -30,10 +30,10 @@ returns c =
     let xs = c.args.memory.now in
     let next = Ok (place c.args.room c.args.cabinet c.args.file) in
     record {
-      answers = ap Ok c.place-of.ensures
+      answers = ap Ok c.place_of.ensures
           ∙ sym (a_slot (shelved xs c.args.room) c.args.cabinet next c.args.file (omega (arith, shelved_count xs c.args.room)) (omega arith));
       within = record {
-        is = c.place-of.ensures;
+        is = c.place_of.ensures;
         within = omega (arith, place-within (length xs) c.args.room c.args.cabinet c.args.file (omega arith) (omega arith));
         there = omega arith;
         file = omega arith;

@@ -8,4 +8,4 @@ returns c =
     let xs = c.args.memory.now in
     let at = c.args.at in
     let bs = c.args.bytes.now in
-    ap (put_mid at (at + length bs - at) xs) c.copy-from-slice.ensures.after ∙ put_part xs bs at (at + length bs - at) (omega arith)
+    ap (put_mid at (at + length bs - at) xs) c.copy_from_slice.ensures.after ∙ put_part xs bs at (at + length bs - at) (omega arith)

@@ -9,7 +9,7 @@ returns-then-bytes-eq0 c =
     let m = shelved c.args.memory.now c.args.room in
     let count = shelved_count c.args.memory.now c.args.room in
     let room = shelved_room c.args.memory.now c.args.room in
-    let at = c.in-ok-at.ensures.within in
+    let at = c.in_ok-at.ensures.within in
     record {
       answers = ap Err c.of_slot.ensures
           ∙ sym (write-misfit m c.args.cabinet c.args.file (length c.args.bytes.now) (omega arith) (omega arith)
@@ -17,16 +17,16 @@ returns-then-bytes-eq0 c =
       memory = refl;
     }
 
-pub returns-then-not-in-reach : goal.returns-then-not-in-reach
-returns-then-not-in-reach c =
+pub returns-then-not-in_reach : goal.returns-then-not-in_reach
+returns-then-not-in_reach c =
     let m = shelved c.args.memory.now c.args.room in
     let count = shelved_count c.args.memory.now c.args.room in
     let room = shelved_room c.args.memory.now c.args.room in
-    let at = c.in-ok-at.ensures.within in
+    let at = c.in_ok-at.ensures.within in
     record {
-      answers = ap Err c.of-slot-then-not-in-reach.ensures
+      answers = ap Err c.of_slot-then-not-in_reach.ensures
           ∙ sym (write-away m c.args.cabinet c.args.file (length c.args.bytes.now) (omega arith) (omega arith) (omega arith) (omega arith)
-          (sym c.in-reach.ensures ∙ c.if-not-in-reach.true));
+          (sym c.in_reach.ensures ∙ c.if-not-in_reach.true));
       memory = refl;
     }
 
@@ -35,9 +35,9 @@ returns c =
     let m = shelved c.args.memory.now c.args.room in
     let count = shelved_count c.args.memory.now c.args.room in
     let room = shelved_room c.args.memory.now c.args.room in
-    let at = c.in-ok-at.ensures.within in
+    let at = c.in_ok-at.ensures.within in
     record {
       answers = sym (write_accepted m c.args.cabinet c.args.file (length c.args.bytes.now) (omega arith) (omega arith) (omega arith) (omega arith)
-          (sym c.in-reach.ensures ∙ c.if-not-in-reach.false));
-      memory = c.put-slot.ensures ∙ ap (λ k. with_held c.args.memory.now k c.args.bytes.now) at.is;
+          (sym c.in_reach.ensures ∙ c.if-not-in_reach.false));
+      memory = c.put_slot.ensures ∙ ap (λ k. with_held c.args.memory.now k c.args.bytes.now) at.is;
     }

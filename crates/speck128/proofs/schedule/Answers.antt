@@ -7,7 +7,7 @@ loop-i-init c = begun_none c.args.key.now _ _ _ refl c.read-words.ensures.x c.re
 
 pub loop-i-preserved : goal.loop-i-preserved
 loop-i-preserved c =
-    begun_more c.args.key.now c.loop-i.round-keys c.loop-i.i _ _ _ _ c.loop-i.invariant (omega arith)
+    begun_more c.args.key.now c.loop-i.round_keys c.loop-i.i _ _ _ _ c.loop-i.invariant (omega arith)
     (c.turned-words.ensures.x, c.turned-words.ensures.y)
 
 pub returns : goal.returns

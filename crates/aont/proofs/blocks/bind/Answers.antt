@@ -4,8 +4,8 @@ use Rattle.aont.proofs.blocks.bind.Goals as goal
 
 pub loop-i-preserved : goal.loop-i-preserved
 loop-i-preserved g c =
-    bind_next g.C.Cipher.encrypted c.args.key c.args.blocks.now (g.C.Cipher.key c.with-key-cipher.result) c.hashed-block.result
-    c.loop-i.sum c.xor16-sum.result c.loop-i.i c.with-key-cipher.ensures c.loop-i.invariant c.hashed-block.ensures c.xor16-sum.ensures
+    bind_next g.C.Cipher.encrypted c.args.key c.args.blocks.now (g.C.Cipher.key c.with_key-cipher.result) c.hashed_block.result
+    c.loop-i.sum c.xor16-sum.result c.loop-i.i c.with_key-cipher.ensures c.loop-i.invariant c.hashed_block.ensures c.xor16-sum.ensures
 
 pub returns : goal.returns
 returns g c =

@@ -8,4 +8,4 @@ returns c =
     let bytes = c.args.bytes.now in
     let i = c.args.i in
     let wide : 16 * i + 16 - 16 * i ≡ 16 = omega arith in
-    c.copy-from-slice.ensures.after ∙ ap (part bytes (16 * i)) wide ∙ block_at bytes i
+    c.copy_from_slice.ensures.after ∙ ap (part bytes (16 * i)) wide ∙ block_at bytes i

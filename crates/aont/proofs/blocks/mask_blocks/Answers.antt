@@ -4,8 +4,8 @@ use Rattle.aont.proofs.blocks.mask_blocks.Goals as goal
 
 pub loop-i-preserved : goal.loop-i-preserved
 loop-i-preserved g c =
-    mask_next g.C.Cipher.encrypted (g.C.Cipher.key c.args.cipher.now) c.args.blocks.now c.loop-i.blocks c.masked-block-new.result
-    c.put.new.bytes c.loop-i.i c.loop-i.invariant c.masked-block-new.ensures c.put.ensures
+    mask_next g.C.Cipher.encrypted (g.C.Cipher.key c.args.cipher.now) c.args.blocks.now c.loop-i.blocks c.masked_block-new.result
+    c.put.new.bytes c.loop-i.i c.loop-i.invariant c.masked_block-new.ensures c.put.ensures
 
 pub returns : goal.returns
 returns g c =

@@ -5,4 +5,4 @@ use Rattle.aont.proofs.blocks.number_block.Goals as goal
 
 pub returns : goal.returns
 unfolding number_block
-returns c = c.to-le-bytes.ensures ∙ simp div-div-eq-div-mul
+returns c = c.to_le_bytes.ensures ∙ simp div-div-eq-div-mul

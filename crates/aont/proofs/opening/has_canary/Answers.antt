@@ -6,5 +6,5 @@ use Rattle.aont.proofs.opening.has_canary.Goals as goal
 pub returns : goal.returns
 returns g c =
     let pkg = c.args.package.now in
-    canary_test g.C.Cipher.encrypted pkg c.requires.fit (length pkg / 16 - 2) c.plain-block.result c.is-canary.result
-    (omega (arith, fits (length pkg) c.requires.fit)) c.plain-block.ensures c.is-canary.ensures
+    canary_test g.C.Cipher.encrypted pkg c.requires.fit (length pkg / 16 - 2) c.plain_block.result c.is_canary.result
+    (omega (arith, fits (length pkg) c.requires.fit)) c.plain_block.ensures c.is_canary.ensures

@@ -4,8 +4,8 @@ use Rattle.base.proofs.Lengths.{fits}
 use Rattle.aont.proofs.Sealed.{last_block}
 use Rattle.aont.proofs.opening.key_in.Goals as goal
 
-pub block-at-requires : goal.block-at-requires
-block-at-requires g c = omega (arith, fits (length c.args.package.now) c.requires)
+pub block_at-requires : goal.block_at-requires
+block_at-requires g c = omega (arith, fits (length c.args.package.now) c.requires)
 
 pub returns : goal.returns
 unfolding key_in
@@ -16,5 +16,5 @@ returns g c =
     let whole = fits (length pkg) c.requires in
     let same : end - 0 ≡ end = omega arith in
     let at : 16 * (end / 16) ≡ end = omega arith in
-    c.bind.ensures ∙ ap (λ k. bound E k (take (end - 0) pkg)) (c.block-at.ensures ∙ last_block E pkg c.requires (end / 16) at)
+    c.bind.ensures ∙ ap (λ k. bound E k (take (end - 0) pkg)) (c.block_at.ensures ∙ last_block E pkg c.requires (end / 16) at)
     ∙ ap (λ n. bound E (drop end pkg) (take n pkg)) same

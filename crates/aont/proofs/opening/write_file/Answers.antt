@@ -5,8 +5,8 @@ use Rattle.base.proofs.Lengths.{fits}
 use Rattle.aont.proofs.Written.{length-unsealed, piece_all, piece_next, unsealed_part}
 use Rattle.aont.proofs.opening.write_file.Goals as goal
 
-pub plain-block-plain-requires : goal.plain-block-plain-requires
-plain-block-plain-requires g c =
+pub plain_block-plain-requires : goal.plain_block-plain-requires
+plain_block-plain-requires g c =
     let pkg = c.args.package.now in
     let long = length-unsealed g.C.Cipher.encrypted g.C.Cipher.number pkg c.requires.fit in
     let whole = fits (length pkg) c.requires.fit in
@@ -21,8 +21,8 @@ loop-i-preserved g c =
     let i = c.loop-i.i in
     let low : 16 * i ≤ length file + 3 = omega (arith, c.requires.whole) in
     piece_next (message_in E pkg) file c.args.out.now i (unsealed_part E number pkg c.requires.fit) low
-    c.plain-block-plain.result c.loop-i.out c.put.new.bytes c.saturating-sub-at.result c.saturating-sub-from.result c.min-end.result
-    c.plain-block-plain.ensures c.saturating-sub-at.ensures c.saturating-sub-from.ensures
+    c.plain_block-plain.result c.loop-i.out c.put.new.bytes c.saturating_sub-at.result c.saturating_sub-from.result c.min-end.result
+    c.plain_block-plain.ensures c.saturating_sub-at.ensures c.saturating_sub-from.ensures
     (c.min-end.ensures ∙ ap (λ n. min n (16 * i + 12)) c.requires.whole) c.loop-i.invariant c.put.ensures
 
 pub returns : goal.returns

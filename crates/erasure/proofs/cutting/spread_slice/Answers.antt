@@ -12,15 +12,15 @@ loop-j-preserved g c =
     let f = g.F.Field in
     let pkg = c.args.package.now in
     let own : ℕ → ℕ = λ j. column (coding f.ops f.width f.stored f.number c.args.k) pkg j c.args.i in
-    stored_next own f.stored c.stored-width-stored.result c.stored-width-stored.ensures c.args.out.now c.loop-j.out c.put-le.new.out c.loop-j.j
-    c.le-at.result c.loop-j.invariant c.loop-j.auto.out c.loop-j-test.true
-    (read_symbol f.ops f.width f.stored f.number g.met.F.Field.widths pkg (c.loop-j.j * c.args.k + c.args.i) c.data-width-width.result c.le-at.result
-    c.data-width-width.ensures c.le-at.ensures)
-    c.put-le.ensures
+    stored_next own f.stored c.stored_width-stored.result c.stored_width-stored.ensures c.args.out.now c.loop-j.out c.put_le.new.out c.loop-j.j
+    c.le_at.result c.loop-j.invariant c.loop-j.auto.out c.loop-j-test.true
+    (read_symbol f.ops f.width f.stored f.number g.met.F.Field.widths pkg (c.loop-j.j * c.args.k + c.args.i) c.data_width-width.result c.le_at.result
+    c.data_width-width.ensures c.le_at.ensures)
+    c.put_le.ensures
 
 pub returns : goal.returns
 returns g c =
     let f = g.F.Field in
     let own : ℕ → ℕ = λ j. column (coding f.ops f.width f.stored f.number c.args.k) c.args.package.now j c.args.i in
-    let last : c.loop-j.j ≡ length c.args.out.now / c.stored-width-stored.result = omega arith in
-    stored-end own f.stored c.stored-width-stored.result c.stored-width-stored.ensures c.args.out.now c.loop-j.out c.loop-j.j last c.loop-j.invariant
+    let last : c.loop-j.j ≡ length c.args.out.now / c.stored_width-stored.result = omega arith in
+    stored-end own f.stored c.stored_width-stored.result c.stored_width-stored.ensures c.args.out.now c.loop-j.out c.loop-j.j last c.loop-j.invariant

@@ -16,15 +16,15 @@ loop-i-preserved c =
     let bs = c.args.sources.now in
     let i = c.loop-i.i in
     let few : length bs ≤ 18446744073709551615 = omega arith in
-    elim c.if-has-bit.branch [
+    elim c.if-has_bit.branch [
       | then-has-bit w ↦
-          w.out-is ∙ w.add-from.ensures
-          ∙ bits_more bit xs ws bs c.args.stride i c.loop-i.out w.saturating-mul.result 18446744073709551615 c.loop-i.invariant few w.saturating-mul.ensures
-          (eqb-true (bit_of (get_or ws i 0) bit) 1 (sym c.has-bit.ensures ∙ w.if-has-bit.true))
+          w.out-is ∙ w.add_from.ensures
+          ∙ bits_more bit xs ws bs c.args.stride i c.loop-i.out w.saturating_mul.result 18446744073709551615 c.loop-i.invariant few w.saturating_mul.ensures
+          (eqb-true (bit_of (get_or ws i 0) bit) 1 (sym c.has_bit.ensures ∙ w.if-has_bit.true))
       | else-has-bit w ↦
           w.out-is
           ∙ bits_same bit xs ws bs c.args.stride i c.loop-i.out c.loop-i.invariant
-          (let no_one : bit_of (get_or ws i 0) bit ≡ 1 → ⊥ = eqb-false (bit_of (get_or ws i 0) bit) 1 (sym c.has-bit.ensures ∙ w.if-has-bit.false) in
+          (let no_one : bit_of (get_or ws i 0) bit ≡ 1 → ⊥ = eqb-false (bit_of (get_or ws i 0) bit) 1 (sym c.has_bit.ensures ∙ w.if-has_bit.false) in
           let low : bit_of (get_or ws i 0) bit < 2 = omega arith in omega arith)
     ]
 

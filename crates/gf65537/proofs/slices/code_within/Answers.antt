@@ -7,5 +7,5 @@ use Rattle.gf65537.proofs.slices.code_within.Goals as goal
 pub returns : goal.returns
 returns c =
     let bs = c.args.sources.now in
-    let read : c.from-le-bytes.result ≡ stored_at 3 bs c.args.at = omega (arith, c.from-le-bytes.ensures, stored_three bs c.args.at) in
+    let read : c.from_le_bytes.result ≡ stored_at 3 bs c.args.at = omega (arith, c.from_le_bytes.ensures, stored_three bs c.args.at) in
     record { value = c.coded.ensures.value ∙ ap (code 65537) read; small = c.coded.ensures.small }

@@ -12,8 +12,8 @@ pub loop-j-preserved : goal.loop-j-preserved
 unfolding combined
 loop-j-preserved c =
     let code : ℕ → ℕ = λ j. combined_at gf65537 3 c.args.weights.now c.args.sources.now c.args.stride (j * 3) in
-    stored_next code 3 3 refl c.args.out.now c.loop-j.out c.put-le.new.out c.loop-j.j c.sum-at.result c.loop-j.invariant c.loop-j.auto.out c.loop-j-test.true
-    c.sum-at.ensures c.put-le.ensures
+    stored_next code 3 3 refl c.args.out.now c.loop-j.out c.put_le.new.out c.loop-j.j c.sum_at.result c.loop-j.invariant c.loop-j.auto.out c.loop-j-test.true
+    c.sum_at.ensures c.put_le.ensures
 
 pub returns : goal.returns
 unfolding combined

@@ -6,11 +6,11 @@ use Rattle.gf65537.specs.Gf65537.{gf65537}
 use Rattle.gf65537.proofs.Sums.{sum_more, slice_within}
 use Rattle.gf65537.proofs.slices.sum_within.Goals as goal
 
-pub overflow-add-i : goal.overflow-add-i
-overflow-add-i c = omega (arith, slice_within c.loop-i.i (length c.args.weights.now) c.args.stride c.args.place (length c.args.sources.now) c.loop-i-test.true c.requires.inside)
+pub overflow_add-i : goal.overflow_add-i
+overflow_add-i c = omega (arith, slice_within c.loop-i.i (length c.args.weights.now) c.args.stride c.args.place (length c.args.sources.now) c.loop-i-test.true c.requires.inside)
 
-pub code-within-requires : goal.code-within-requires
-code-within-requires c =
+pub code_within-requires : goal.code_within-requires
+code_within-requires c =
     slice_within c.loop-i.i (length c.args.weights.now) c.args.stride c.args.place (length c.args.sources.now) c.loop-i-test.true c.requires.inside
 
 pub loop-i-preserved : goal.loop-i-preserved
@@ -20,9 +20,9 @@ loop-i-preserved c =
     let v = stored_at 3 c.args.sources.now (i * c.args.stride + c.args.place) in
     let w = at c.args.weights.now i in
     let term : ℕ → ℕ = λ i. gf65537.mul (stored_at 3 c.args.sources.now (i * c.args.stride + c.args.place)) (at c.args.weights.now i) in
-    let a : c.from.result ≡ code 65537 v = c.from.ensures ∙ c.code-within.ensures.value in
+    let a : c.from.result ≡ code 65537 v = c.from.ensures ∙ c.code_within.ensures.value in
     let b : c.from-in-loop-i.result ≡ code 65537 w = c.from-in-loop-i.ensures ∙ c.coded.ensures.value in
-    let low : c.from.result ≤ 65536 = omega (arith, c.from.ensures, c.code-within.ensures.small) in
+    let low : c.from.result ≤ 65536 = omega (arith, c.from.ensures, c.code_within.ensures.small) in
     let low_too : c.from-in-loop-i.result ≤ 65536 = omega (arith, c.from-in-loop-i.ensures, c.coded.ensures.small) in (
       ap (λ x. (sum + x * c.from-in-loop-i.result) % 65537) a ∙ ap (λ x. (sum + code 65537 v * x) % 65537) b ∙ sum_more sum v w
           ∙ ap (λ x. gf65537.add x (gf65537.mul v w)) c.loop-i.invariant.0 ∙ ap (λ n. sum_to gf65537 n term) (sym (add-one i)),

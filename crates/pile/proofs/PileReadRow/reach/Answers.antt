@@ -24,5 +24,5 @@ returns g c =
     let b = g.B.ReadRow.model c.args.self.now.second in
     let past : a.count ≤ c.args.cabinet = omega (arith, c.count-first.ensures) in
     let low : c.args.cabinet < 16 = c.if-cabinet-ge16.false in
-    let same : c.past-first.result ≡ c.args.cabinet - a.count = c.past-first.ensures ∙ ap (λ n. c.args.cabinet - n) c.count-first.ensures in
+    let same : c.past_first.result ≡ c.args.cabinet - a.count = c.past_first.ensures ∙ ap (λ n. c.args.cabinet - n) c.count-first.ensures in
     c.named.ensures ∙ ap (naming c.args.cabinet) (c.reach-2.ensures ∙ ap (λ k. reach_answer b k) same) ∙ second_reach_answer a b c.args.cabinet low past

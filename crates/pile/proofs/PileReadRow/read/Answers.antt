@@ -32,9 +32,9 @@ returns g c =
     let k = c.args.cabinet in
     let past : a.count ≤ k = omega (arith, c.count-first.ensures) in
     let low : k < 16 = c.if-cabinet-ge16.false in
-    let same : c.past-first.result ≡ k - a.count = c.past-first.ensures ∙ ap (λ n. k - n) c.count-first.ensures in
+    let same : c.past_first.result ≡ k - a.count = c.past_first.ensures ∙ ap (λ n. k - n) c.count-first.ensures in
     let buffer = c.args.buffer.now in
-    let both = second_read k c.past-first.result c.args.file a b buffer _ c.read-2.result c.named.result
+    let both = second_read k c.past_first.result c.args.file a b buffer _ c.read-2.result c.named.result
     same c.read-2.ensures.answers c.read-2.ensures.fills c.named.ensures
     (second_read_answer a b k low past c.args.file (length buffer)) (second_slot_is a b k low past c.args.file) in
     record { answers = both.0; fills = both.1 }

@@ -29,8 +29,8 @@ returns g c =
     let k = c.args.cabinet in
     let past : a.count ≤ k = omega (arith, c.count-first.ensures) in
     let low : k < 16 = c.if-cabinet-ge16.false in
-    let same : c.past-first.result ≡ k - a.count = c.past-first.ensures ∙ ap (λ n. k - n) c.count-first.ensures in
-    let both = second_call (λ m j. slot_answer m j c.args.file) (λ m j. with_slot m j c.args.file Empty) k c.past-first.result a b _ c.clear-2.result c.named.result
+    let same : c.past_first.result ≡ k - a.count = c.past_first.ensures ∙ ap (λ n. k - n) c.count-first.ensures in
+    let both = second_call (λ m j. slot_answer m j c.args.file) (λ m j. with_slot m j c.args.file Empty) k c.past_first.result a b _ c.clear-2.result c.named.result
     same c.clear-2.ensures.answers c.clear-2.ensures.becomes c.named.ensures
     (second_slot_answer a b k low past c.args.file) (second_with_slot a b k low past c.args.file Empty) in
     record { answers = both.0; becomes = both.1 }

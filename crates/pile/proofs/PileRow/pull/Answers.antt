@@ -29,8 +29,8 @@ returns g c =
     let k = c.args.cabinet in
     let past : a.count ≤ k = omega (arith, c.count-first.ensures) in
     let low : k < 16 = c.if-cabinet-ge16.false in
-    let same : c.past-first.result ≡ k - a.count = c.past-first.ensures ∙ ap (λ n. k - n) c.count-first.ensures in
-    let both = second_call cabinet_answer (λ m j. with_reach m j false) k c.past-first.result a b _ c.pull-2.result c.named.result
+    let same : c.past_first.result ≡ k - a.count = c.past_first.ensures ∙ ap (λ n. k - n) c.count-first.ensures in
+    let both = second_call cabinet_answer (λ m j. with_reach m j false) k c.past_first.result a b _ c.pull-2.result c.named.result
     same c.pull-2.ensures.answers c.pull-2.ensures.becomes c.named.ensures
     (second_cabinet_answer a b k low past) (second_with_reach a b k low past false) in
     record { answers = both.0; becomes = both.1 }

@@ -24,9 +24,9 @@ returns g c =
     let k = c.args.cabinet in
     let past : a.count ≤ k = omega (arith, c.count-first.ensures) in
     let low : k < 16 = omega (arith, piled_count a b) in
-    let same : c.past-first.result ≡ k - a.count = c.past-first.ensures ∙ ap (λ n. k - n) c.count-first.ensures in
+    let same : c.past_first.result ≡ k - a.count = c.past_first.ensures ∙ ap (λ n. k - n) c.count-first.ensures in
     let fits : length c.args.bytes.now ≤ (piled a b).room = omega arith in
-    let both = second_call (λ m j. write_answer m j c.args.file (length c.args.bytes.now)) (λ m j. with_slot m j c.args.file (Held c.args.bytes.now)) k c.past-first.result a b _ c.write-2.result c.named.result
+    let both = second_call (λ m j. write_answer m j c.args.file (length c.args.bytes.now)) (λ m j. with_slot m j c.args.file (Held c.args.bytes.now)) k c.past_first.result a b _ c.write-2.result c.named.result
     same c.write-2.ensures.answers c.write-2.ensures.becomes c.named.ensures
     (second_write_answer a b k low past c.args.file (length c.args.bytes.now) fits) (second_with_slot a b k low past c.args.file (Held c.args.bytes.now)) in
     record { answers = both.0; becomes = both.1 }

@@ -8,11 +8,11 @@ pub loop-i-init : goal.loop-i-init
 loop-i-init c = every_none (λ i. ltb (at c.args.positions.now i) c.args.n && every i (λ j. not (eqb (at c.args.positions.now i) (at c.args.positions.now j))))
 
 pub loop-i-preserved : goal.loop-i-preserved
-loop-i-preserved c = every_more c.loop-i.i (λ i. ltb (at c.args.positions.now i) c.args.n && every i (λ j. not (eqb (at c.args.positions.now i) (at c.args.positions.now j)))) c.loop-i.invariant (sym c.position_fits.ensures ∙ c.if-not-position-fits.false)
+loop-i-preserved c = every_more c.loop-i.i (λ i. ltb (at c.args.positions.now i) c.args.n && every i (λ j. not (eqb (at c.args.positions.now i) (at c.args.positions.now j)))) c.loop-i.invariant (sym c.position_fits.ensures ∙ c.if-not-position_fits.false)
 
-pub returns-then-not-position-fits : goal.returns-then-not-position-fits
-returns-then-not-position-fits c =
-    sym (every_fails (length c.args.positions.now) c.loop-i.i (λ i. ltb (at c.args.positions.now i) c.args.n && every i (λ j. not (eqb (at c.args.positions.now i) (at c.args.positions.now j)))) c.loop-i-test.true (sym c.position_fits.ensures ∙ c.if-not-position-fits.true))
+pub returns-then-not-position_fits : goal.returns-then-not-position_fits
+returns-then-not-position_fits c =
+    sym (every_fails (length c.args.positions.now) c.loop-i.i (λ i. ltb (at c.args.positions.now i) c.args.n && every i (λ j. not (eqb (at c.args.positions.now i) (at c.args.positions.now j)))) c.loop-i-test.true (sym c.position_fits.ensures ∙ c.if-not-position_fits.true))
 
 pub returns : goal.returns
 returns c =

@@ -5,8 +5,8 @@ use Rattle.algebra.specs.Slices.{stored_at}
 use Rattle.recovery.proofs.Reading.{record_within}
 use Rattle.recovery.proofs.checking.record_codes_fit.Goals as goal
 
-pub overflow-add-place : goal.overflow-add-place
-overflow-add-place g c = omega (arith, record_within c.loop-j.j c.args.count g.F.Field.stored c.loop-j-test.true, ap (λ n. c.loop-j.j * n) c.stored-width.ensures, c.requires)
+pub overflow_add-place : goal.overflow_add-place
+overflow_add-place g c = omega (arith, record_within c.loop-j.j c.args.count g.F.Field.stored c.loop-j-test.true, ap (λ n. c.loop-j.j * n) c.stored_width.ensures, c.requires)
 
 pub loop-j-init : goal.loop-j-init
 loop-j-init g c =
@@ -17,15 +17,15 @@ pub loop-j-preserved : goal.loop-j-preserved
 loop-j-preserved g c =
     let f = g.F.Field in
     let test : ℕ → Bool = λ place. ltb (stored_at f.stored c.args.records.now (c.args.place + place)) f.ops.size in
-    let own = c.is-code.ensures ∙ ap (λ n. test (c.loop-j.j * n)) c.stored-width.ensures in
-    every_more c.loop-j.j (λ j. test (j * f.stored)) c.loop-j.invariant (sym own ∙ c.if-not-is-code.false)
+    let own = c.is_code.ensures ∙ ap (λ n. test (c.loop-j.j * n)) c.stored_width.ensures in
+    every_more c.loop-j.j (λ j. test (j * f.stored)) c.loop-j.invariant (sym own ∙ c.if-not-is_code.false)
 
-pub returns-then-not-is-code : goal.returns-then-not-is-code
-returns-then-not-is-code g c =
+pub returns-then-not-is_code : goal.returns-then-not-is_code
+returns-then-not-is_code g c =
     let f = g.F.Field in
     let test : ℕ → Bool = λ place. ltb (stored_at f.stored c.args.records.now (c.args.place + place)) f.ops.size in
-    let own = c.is-code.ensures ∙ ap (λ n. test (c.loop-j.j * n)) c.stored-width.ensures in
-    sym (every_fails c.args.count c.loop-j.j (λ j. test (j * f.stored)) c.loop-j-test.true (sym own ∙ c.if-not-is-code.true))
+    let own = c.is_code.ensures ∙ ap (λ n. test (c.loop-j.j * n)) c.stored_width.ensures in
+    sym (every_fails c.args.count c.loop-j.j (λ j. test (j * f.stored)) c.loop-j-test.true (sym own ∙ c.if-not-is_code.true))
 
 pub returns : goal.returns
 returns g c =

@@ -17,19 +17,19 @@ loop-i-preserved g c =
     let i = c.loop-i.i in
     let j = c.args.j in
     let test = column_whole (coding f.ops f.width f.stored f.number c.args.k) c.args.symbols c.args.size c.args.slices.now j in
-    let own = c.symbol-fits.ensures
-    ∙ ap (λ v. ltb (stored_at f.stored c.args.slices.now (i * c.args.size + j * v)) (cond (ltb (j * c.args.k + i) c.args.symbols) (256 ^ f.width) 1)) c.stored-width.ensures in
-    every_more i test c.loop-i.invariant (sym own ∙ c.if-not-symbol-fits.false)
+    let own = c.symbol_fits.ensures
+    ∙ ap (λ v. ltb (stored_at f.stored c.args.slices.now (i * c.args.size + j * v)) (cond (ltb (j * c.args.k + i) c.args.symbols) (256 ^ f.width) 1)) c.stored_width.ensures in
+    every_more i test c.loop-i.invariant (sym own ∙ c.if-not-symbol_fits.false)
 
-pub returns-then-not-symbol-fits : goal.returns-then-not-symbol-fits
-returns-then-not-symbol-fits g c =
+pub returns-then-not-symbol_fits : goal.returns-then-not-symbol_fits
+returns-then-not-symbol_fits g c =
     let f = g.F.Field in
     let i = c.loop-i.i in
     let j = c.args.j in
     let test = column_whole (coding f.ops f.width f.stored f.number c.args.k) c.args.symbols c.args.size c.args.slices.now j in
-    let own = c.symbol-fits.ensures
-    ∙ ap (λ v. ltb (stored_at f.stored c.args.slices.now (i * c.args.size + j * v)) (cond (ltb (j * c.args.k + i) c.args.symbols) (256 ^ f.width) 1)) c.stored-width.ensures in
-    sym (every_fails c.args.k i test c.loop-i-test.true (sym own ∙ c.if-not-symbol-fits.true))
+    let own = c.symbol_fits.ensures
+    ∙ ap (λ v. ltb (stored_at f.stored c.args.slices.now (i * c.args.size + j * v)) (cond (ltb (j * c.args.k + i) c.args.symbols) (256 ^ f.width) 1)) c.stored_width.ensures in
+    sym (every_fails c.args.k i test c.loop-i-test.true (sym own ∙ c.if-not-symbol_fits.true))
 
 pub returns : goal.returns
 returns g c =

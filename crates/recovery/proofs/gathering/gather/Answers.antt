@@ -35,17 +35,17 @@ loop-t-preserved g c =
     let own : ℕ → ℕ = λ t. stored_at f.stored slices (t % k * size + t / k * f.stored) in
     let low : 1 ≤ k = omega arith in
     let less : t % k < k = mod-lt t low in
-    let read : c.le-at.result ≡ own t =
-    read_stored f.ops f.width f.stored f.number g.met.F.Field.widths slices (λ v. c.loop-t.i * size + c.loop-t.j * v) c.stored-width-stored.result c.le-at.result
-    c.stored-width-stored.ensures c.le-at.ensures
+    let read : c.le_at.result ≡ own t =
+    read_stored f.ops f.width f.stored f.number g.met.F.Field.widths slices (λ v. c.loop-t.i * size + c.loop-t.j * v) c.stored_width-stored.result c.le_at.result
+    c.stored_width-stored.ensures c.le_at.ensures
     ∙ ap (λ i. stored_at f.stored slices (i * size + c.loop-t.j * f.stored)) i_is ∙ ap (λ j. stored_at f.stored slices (t % k * size + j * f.stored)) j_is in
     let counted : (c.if-i-k.i ≡ (t + 1) % k) × (c.if-i-k.j ≡ (t + 1) / k) =
     elim c.if-i-k.branch [
       | then-i-k w ↦ let n = next_column t k low (omega (arith, w.if-i-k.true)) in (w.i_is ∙ sym n.0, w.j_is ∙ ap (λ j. j + 1) j_is ∙ sym n.1)
       | else-i-k w ↦ let n = same_column t k (omega (arith, w.if-i-k.false)) in (w.i_is ∙ ap (λ i. i + 1) i_is ∙ sym n.0, w.j_is ∙ j_is ∙ sym n.1)
     ] in (
-      stored_next own f.width c.data-width-width.result c.data-width-width.ensures c.args.out.now c.loop-t.out c.put-le.new.out t
-          c.le-at.result c.loop-t.invariant.0 c.loop-t.auto.out c.loop-t-test.true read c.put-le.ensures,
+      stored_next own f.width c.data_width-width.result c.data_width-width.ensures c.args.out.now c.loop-t.out c.put_le.new.out t
+          c.le_at.result c.loop-t.invariant.0 c.loop-t.auto.out c.loop-t-test.true read c.put_le.ensures,
       counted.0,
       counted.1,
     )
@@ -55,5 +55,5 @@ returns g c =
     let f = g.F.Field in
     let k = c.args.k in
     let own : ℕ → ℕ = λ t. stored_at f.stored c.args.slices.now (t % k * c.args.size + t / k * f.stored) in
-    let last : c.loop-t.t ≡ length c.args.out.now / c.data-width-width.result = omega arith in
-    stored-end own f.width c.data-width-width.result c.data-width-width.ensures c.args.out.now c.loop-t.out c.loop-t.t last c.loop-t.invariant.0
+    let last : c.loop-t.t ≡ length c.args.out.now / c.data_width-width.result = omega arith in
+    stored-end own f.width c.data_width-width.result c.data_width-width.ensures c.args.out.now c.loop-t.out c.loop-t.t last c.loop-t.invariant.0

@@ -9,18 +9,18 @@ pub loop-j-preserved : goal.loop-j-preserved
 loop-j-preserved g c =
     let f = g.F.Field in
     let test : ℕ → Bool = λ j. every c.args.k (column_whole (coding f.ops f.width f.stored f.number c.args.k) c.args.symbols c.args.size c.args.slices.now j) in
-    every_more c.loop-j.j test c.loop-j.invariant (sym c.column-fits.ensures ∙ c.if-not-column-fits.false)
+    every_more c.loop-j.j test c.loop-j.invariant (sym c.column_fits.ensures ∙ c.if-not-column_fits.false)
 
 pub loop-j-init : goal.loop-j-init
 loop-j-init g c =
     let f = g.F.Field in
     every_none (λ j. every c.args.k (column_whole (coding f.ops f.width f.stored f.number c.args.k) c.args.symbols c.args.size c.args.slices.now j))
 
-pub returns-then-not-column-fits : goal.returns-then-not-column-fits
-returns-then-not-column-fits g c =
+pub returns-then-not-column_fits : goal.returns-then-not-column_fits
+returns-then-not-column_fits g c =
     let f = g.F.Field in
     let test : ℕ → Bool = λ j. every c.args.k (column_whole (coding f.ops f.width f.stored f.number c.args.k) c.args.symbols c.args.size c.args.slices.now j) in
-    sym (every_fails c.args.columns c.loop-j.j test c.loop-j-test.true (sym c.column-fits.ensures ∙ c.if-not-column-fits.true))
+    sym (every_fails c.args.columns c.loop-j.j test c.loop-j-test.true (sym c.column_fits.ensures ∙ c.if-not-column_fits.true))
 
 pub returns : goal.returns
 returns g c =

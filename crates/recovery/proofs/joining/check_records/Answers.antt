@@ -4,8 +4,8 @@ use Rattle.erasure.specs.Records.{coding, columns, record_length}
 use Rattle.erasure.proofs.Reading.{one_slice}
 use Rattle.recovery.proofs.joining.check_records.Goals as goal
 
-pub records-fit-requires : goal.records-fit-requires
-records-fit-requires g c =
+pub records_fit-requires : goal.records_fit-requires
+records_fit-requires g c =
     let f = g.F.Field in
     let told = c.in-Some.ensures in
     let plan = c.args.plan.now.fits in
@@ -24,8 +24,8 @@ returns g c =
     let m = columns C c.args.bytes in
     let whole = c.in-Some.whole in
     let size : whole - 6 ≡ m * f.stored = omega (arith, told.1) in
-    let count : (whole - 6) / c.stored-width.result ≡ m =
-    ap (λ n. n / c.stored-width.result) size ∙ ap (λ n. m * f.stored / n) c.stored-width.ensures
+    let count : (whole - 6) / c.stored_width.result ≡ m =
+    ap (λ n. n / c.stored_width.result) size ∙ ap (λ n. m * f.stored / n) c.stored_width.ensures
     ∙ mul-div_cancel m (stored-least f.ops g.met.F.Field.lawful f.width f.stored f.number g.met.F.Field.widths) in
-    let bound : k * ((whole - 6) / c.stored-width.result * f.stored) ≤ 6400 = subst (λ n. k * (n * f.stored) ≤ 6400) (sym count) (subst (λ n. k * n ≤ 6400) size told.2) in
+    let bound : k * ((whole - 6) / c.stored_width.result * f.stored) ≤ 6400 = subst (λ n. k * (n * f.stored) ≤ 6400) (sym count) (subst (λ n. k * n ≤ 6400) size told.2) in
     search rules

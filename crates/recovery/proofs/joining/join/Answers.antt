@@ -16,11 +16,11 @@ returns-in-Ok g c =
     let positions = c.args.positions.now in
     let records = c.args.records.now in
     record {
-      answers = c.join-checked.ensures.answers
+      answers = c.join_checked.ensures.answers
           ∙ sym (given_next C c.args.plan.now.n bytes positions records None (columns C bytes) c.in-Ok.columns (join_rest C bytes positions records (length c.args.out.now))
-          (sym c.check-records.ensures.answers ∙ c.in-Ok.is));
-      fills = c.join-checked.ensures.fills;
-      exact = joins C L W c.args.plan.now.n bytes positions records (λ i. (c.type-inv.records i).fits) (omega (arith, plan)) (omega (arith, plan)) (omega (arith, plan));
+          (sym c.check_records.ensures.answers ∙ c.in-Ok.is));
+      fills = c.join_checked.ensures.fills;
+      exact = joins C L W c.args.plan.now.n bytes positions records (λ i. (c.type_inv.records i).fits) (omega (arith, plan)) (omega (arith, plan)) (omega (arith, plan));
     }
 
 pub returns-in-Err : goal.returns-in-Err
@@ -35,7 +35,7 @@ returns-in-Err g c =
     let records = c.args.records.now in
     record {
       answers = sym (given_stop C c.args.plan.now.n bytes positions records None (columns C bytes) c.in-Err.fault (join_rest C bytes positions records (length c.args.out.now))
-          (sym c.check-records.ensures.answers ∙ c.in-Err.is));
+          (sym c.check_records.ensures.answers ∙ c.in-Err.is));
       fills = refl;
-      exact = joins C L W c.args.plan.now.n bytes positions records (λ i. (c.type-inv.records i).fits) (omega (arith, plan)) (omega (arith, plan)) (omega (arith, plan));
+      exact = joins C L W c.args.plan.now.n bytes positions records (λ i. (c.type_inv.records i).fits) (omega (arith, plan)) (omega (arith, plan)) (omega (arith, plan));
     }

@@ -45,8 +45,8 @@ module _ (o : Ops) (w v number : ℕ) (L : Laws o) (W : Widths o w v number) (k 
       ∙ ap (λ q. gathered C (columns C bytes * v) slices (q / w)) en ∙ ap (λ xs. gathered C (columns C bytes * v) xs (bytes / w)) slices_are
       ∙ gathered_is C L W bytes positions records rest (omega arith)
 
-pub codes-fit-requires : goal.codes-fit-requires
-codes-fit-requires g c =
+pub codes_fit-requires : goal.codes_fit-requires
+codes_fit-requires g c =
     let f = g.F.Field in
     let k = c.needed-k.result in
     let plan = c.args.plan.now.fits in
@@ -65,15 +65,15 @@ sizes k m v v' low pos ev bound =
     let small : m * v ≤ 6400 = one_slice k (m * v) 6400 low bound in
     (omega (arith, ap (λ n. m * n) ev, small), omega (arith, small, mul-le-mul_left m pos, mul-one m))
 
-pub slices-fit-requires : goal.slices-fit-requires
-slices-fit-requires g c =
+pub slices_fit-requires : goal.slices_fit-requires
+slices_fit-requires g c =
     let f = g.F.Field in
     let plan = c.args.plan.now.fits in
     let pos = stored-least f.ops g.met.F.Field.lawful f.width f.stored f.number g.met.F.Field.widths in
-    (omega (arith, plan, c.needed-k.ensures), sizes c.args.plan.now.k c.args.columns f.stored c.stored-width.result (omega (arith, plan)) pos c.stored-width.ensures c.requires.bound)
+    (omega (arith, plan, c.needed-k.ensures), sizes c.args.plan.now.k c.args.columns f.stored c.stored_width.result (omega (arith, plan)) pos c.stored_width.ensures c.requires.bound)
 
-pub returns-then-not-slices-fit : goal.returns-then-not-slices-fit
-returns-then-not-slices-fit g c =
+pub returns-then-not-slices_fit : goal.returns-then-not-slices_fit
+returns-then-not-slices_fit g c =
     let f = g.F.Field in
     let k = c.args.plan.now.k in
     let C = coding f.ops f.width f.stored f.number k in
@@ -83,14 +83,14 @@ returns-then-not-slices-fit g c =
     let out = c.args.out.now in
     let new = over (package_from C bytes positions records) out in
     let codes : codes_fit C bytes records ≡ true =
-    ap (λ n. codes_fit (coding f.ops f.width f.stored f.number n) bytes records) (sym c.needed-k.ensures) ∙ sym c.codes_fit.ensures ∙ c.if-not-codes-fit.false in
+    ap (λ n. codes_fit (coding f.ops f.width f.stored f.number n) bytes records) (sym c.needed-k.ensures) ∙ sym c.codes_fit.ensures ∙ c.if-not-codes_fit.false in
     let whole : c.slices_fit.result ≡ data_fits C bytes positions records =
-    data_is f.ops f.width f.stored f.number g.met.F.Field.lawful g.met.F.Field.widths k bytes positions records c.recover-slices.result c.needed-k.result c.data-width.result c.stored-width.result
-    c.args.columns c.needed-k.ensures c.data-width.ensures c.stored-width.ensures c.requires.count c.recover-slices.ensures c.slices_fit.result c.slices_fit.ensures in
+    data_is f.ops f.width f.stored f.number g.met.F.Field.lawful g.met.F.Field.widths k bytes positions records c.recover-slices.result c.needed-k.result c.data_width.result c.stored_width.result
+    c.args.columns c.needed-k.ensures c.data_width.ensures c.stored_width.ensures c.requires.count c.recover-slices.ensures c.slices_fit.result c.slices_fit.ensures in
     record {
-      answers = c.refused-then-not-slices-fit.ensures
-          ∙ sym (stops (not (codes_fit C bytes records && data_fits C bytes positions records)) _ _ (ap (λ b. not (b && data_fits C bytes positions records)) codes ∙ ap not (sym whole ∙ c.if-not-slices-fit.true)));
-      fills = sym (ap (λ r. leaves r out new) c.refused-then-not-slices-fit.ensures);
+      answers = c.refused-then-not-slices_fit.ensures
+          ∙ sym (stops (not (codes_fit C bytes records && data_fits C bytes positions records)) _ _ (ap (λ b. not (b && data_fits C bytes positions records)) codes ∙ ap not (sym whole ∙ c.if-not-slices_fit.true)));
+      fills = sym (ap (λ r. leaves r out new) c.refused-then-not-slices_fit.ensures);
     }
 
 pub returns-then-out-bytes : goal.returns-then-out-bytes
@@ -104,13 +104,13 @@ returns-then-out-bytes g c =
     let out = c.args.out.now in
     let new = over (package_from C bytes positions records) out in
     let codes : codes_fit C bytes records ≡ true =
-    ap (λ n. codes_fit (coding f.ops f.width f.stored f.number n) bytes records) (sym c.needed-k.ensures) ∙ sym c.codes_fit.ensures ∙ c.if-not-codes-fit.false in
+    ap (λ n. codes_fit (coding f.ops f.width f.stored f.number n) bytes records) (sym c.needed-k.ensures) ∙ sym c.codes_fit.ensures ∙ c.if-not-codes_fit.false in
     let whole : c.slices_fit.result ≡ data_fits C bytes positions records =
-    data_is f.ops f.width f.stored f.number g.met.F.Field.lawful g.met.F.Field.widths k bytes positions records c.recover-slices.result c.needed-k.result c.data-width.result c.stored-width.result
-    c.args.columns c.needed-k.ensures c.data-width.ensures c.stored-width.ensures c.requires.count c.recover-slices.ensures c.slices_fit.result c.slices_fit.ensures in
+    data_is f.ops f.width f.stored f.number g.met.F.Field.lawful g.met.F.Field.widths k bytes positions records c.recover-slices.result c.needed-k.result c.data_width.result c.stored_width.result
+    c.args.columns c.needed-k.ensures c.data_width.ensures c.stored_width.ensures c.requires.count c.recover-slices.ensures c.slices_fit.result c.slices_fit.ensures in
     record {
       answers = c.refused-then-out-bytes.ensures
-          ∙ sym (passes (not (codes_fit C bytes records && data_fits C bytes positions records)) _ _ (ap (λ b. not (b && data_fits C bytes positions records)) codes ∙ ap not (sym whole ∙ c.if-not-slices-fit.false))
+          ∙ sym (passes (not (codes_fit C bytes records && data_fits C bytes positions records)) _ _ (ap (λ b. not (b && data_fits C bytes positions records)) codes ∙ ap not (sym whole ∙ c.if-not-slices_fit.false))
           ∙ stops (ltb (length out) bytes) _ _ (lt-ltb (length out) bytes c.if-out-bytes.true));
       fills = sym (ap (λ r. leaves r out new) c.refused-then-out-bytes.ensures);
     }
@@ -124,7 +124,7 @@ gather-requires g c =
       (
         omega (arith, plan, c.needed-k.ensures),
         (
-          (sizes c.args.plan.now.k c.args.columns f.stored c.stored-width.result (omega (arith, plan)) pos c.stored-width.ensures c.requires.bound).0,
+          (sizes c.args.plan.now.k c.args.columns f.stored c.stored_width.result (omega (arith, plan)) pos c.stored_width.ensures c.requires.bound).0,
           omega (arith, length-take (c.args.bytes - 0) c.args.out.now, (fits c.args.bytes c.requires.sized).2),
         ),
       ),
@@ -141,21 +141,21 @@ returns g c =
     let out = c.args.out.now in
     let new = over (package_from C bytes positions records) out in
     let codes : codes_fit C bytes records ≡ true =
-    ap (λ n. codes_fit (coding f.ops f.width f.stored f.number n) bytes records) (sym c.needed-k.ensures) ∙ sym c.codes_fit.ensures ∙ c.if-not-codes-fit.false in
+    ap (λ n. codes_fit (coding f.ops f.width f.stored f.number n) bytes records) (sym c.needed-k.ensures) ∙ sym c.codes_fit.ensures ∙ c.if-not-codes_fit.false in
     let whole : c.slices_fit.result ≡ data_fits C bytes positions records =
-    data_is f.ops f.width f.stored f.number g.met.F.Field.lawful g.met.F.Field.widths k bytes positions records c.recover-slices.result c.needed-k.result c.data-width.result c.stored-width.result
-    c.args.columns c.needed-k.ensures c.data-width.ensures c.stored-width.ensures c.requires.count c.recover-slices.ensures c.slices_fit.result c.slices_fit.ensures in
+    data_is f.ops f.width f.stored f.number g.met.F.Field.lawful g.met.F.Field.widths k bytes positions records c.recover-slices.result c.needed-k.result c.data_width.result c.stored_width.result
+    c.args.columns c.needed-k.ensures c.data_width.ensures c.stored_width.ensures c.requires.count c.recover-slices.ensures c.slices_fit.result c.slices_fit.ensures in
     let own = take (bytes - 0) out in
     let long : length own ≡ bytes = length-take (bytes - 0) out ∙ omega arith in
     let pkg = package_from C bytes positions records in
     let size : length pkg ≡ bytes = package-long C g.met.F.Field.lawful g.met.F.Field.widths bytes positions records c.requires.sized in
     let is : c.gather.new.out ≡ pkg =
     c.gather.ensures
-    ∙ ap (λ xs. over xs own) (gather_is f.ops f.width f.stored f.number g.met.F.Field.lawful g.met.F.Field.widths k bytes positions records c.recover-slices.result c.needed-k.result c.data-width.result c.stored-width.result
-    c.args.columns c.needed-k.ensures c.data-width.ensures c.stored-width.ensures c.requires.count c.recover-slices.ensures (length own) long (omega (arith, c.args.plan.now.fits)))
+    ∙ ap (λ xs. over xs own) (gather_is f.ops f.width f.stored f.number g.met.F.Field.lawful g.met.F.Field.widths k bytes positions records c.recover-slices.result c.needed-k.result c.data_width.result c.stored_width.result
+    c.args.columns c.needed-k.ensures c.data_width.ensures c.stored_width.ensures c.requires.count c.recover-slices.ensures (length own) long (omega (arith, c.args.plan.now.fits)))
     ∙ over_whole pkg own (omega (arith, size, long)) in
     record {
-      answers = sym (passes (not (codes_fit C bytes records && data_fits C bytes positions records)) _ _ (ap (λ b. not (b && data_fits C bytes positions records)) codes ∙ ap not (sym whole ∙ c.if-not-slices-fit.false))
+      answers = sym (passes (not (codes_fit C bytes records && data_fits C bytes positions records)) _ _ (ap (λ b. not (b && data_fits C bytes positions records)) codes ∙ ap not (sym whole ∙ c.if-not-slices_fit.false))
           ∙ passes (ltb (length out) bytes) _ (Ok bytes) (le-ltb (length out) bytes c.if-out-bytes.false));
       fills = ap (λ n. c.gather.new.out ++ drop n out) (sub-zero bytes ∙ sym size ∙ sym (ap length is)) ∙ ap (λ xs. over xs out) is;
     }

@@ -17,11 +17,11 @@ returns-in-Ok g c =
     let x = c.args.cabinet in
     let records = c.args.records.now in
     record {
-      answers = c.rebuild-checked.ensures.answers
+      answers = c.rebuild_checked.ensures.answers
           ∙ sym (given_next C n bytes c.args.positions.now records (Some x) (columns C bytes) c.in-Ok.columns (rebuild_rest C n bytes records x (length c.args.out.now))
-          (sym c.check-records.ensures.answers ∙ c.in-Ok.is));
-      fills = c.rebuild-checked.ensures.fills;
-      exact = rebuilds C L W n bytes c.args.positions.now records (λ i. (c.type-inv.records i).fits) (omega (arith, plan)) (omega (arith, plan)) (omega (arith, plan)) x;
+          (sym c.check_records.ensures.answers ∙ c.in-Ok.is));
+      fills = c.rebuild_checked.ensures.fills;
+      exact = rebuilds C L W n bytes c.args.positions.now records (λ i. (c.type_inv.records i).fits) (omega (arith, plan)) (omega (arith, plan)) (omega (arith, plan)) x;
     }
 
 pub returns-in-Err : goal.returns-in-Err
@@ -37,7 +37,7 @@ returns-in-Err g c =
     let records = c.args.records.now in
     record {
       answers = sym (given_stop C n bytes c.args.positions.now records (Some x) (columns C bytes) c.in-Err.fault (rebuild_rest C n bytes records x (length c.args.out.now))
-          (sym c.check-records.ensures.answers ∙ c.in-Err.is));
+          (sym c.check_records.ensures.answers ∙ c.in-Err.is));
       fills = refl;
-      exact = rebuilds C L W n bytes c.args.positions.now records (λ i. (c.type-inv.records i).fits) (omega (arith, plan)) (omega (arith, plan)) (omega (arith, plan)) x;
+      exact = rebuilds C L W n bytes c.args.positions.now records (λ i. (c.type_inv.records i).fits) (omega (arith, plan)) (omega (arith, plan)) (omega (arith, plan)) x;
     }

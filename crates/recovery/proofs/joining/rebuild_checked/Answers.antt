@@ -14,8 +14,8 @@ use Rattle.recovery.specs.Given.{Given}
 use Rattle.recovery.proofs.Checked.{records-long, records-issued, cut_rest, rebuilt_is}
 use Rattle.recovery.proofs.joining.rebuild_checked.Goals as goal
 
-pub codes-fit-requires : goal.codes-fit-requires
-codes-fit-requires g c =
+pub codes_fit-requires : goal.codes_fit-requires
+codes_fit-requires g c =
     let f = g.F.Field in
     let k = c.needed.result in
     let plan = c.args.plan.now.fits in
@@ -44,16 +44,16 @@ returns g c =
     let x = c.args.cabinet in
     let issue = c.read-issue.ensures.issue in
     let codes : codes_fit C bytes records ≡ true =
-    ap (λ q. codes_fit (coding f.ops f.width f.stored f.number q) bytes records) (sym c.needed.ensures) ∙ sym c.codes_fit.ensures ∙ c.if-not-codes-fit.false in
+    ap (λ q. codes_fit (coding f.ops f.width f.stored f.number q) bytes records) (sym c.needed.ensures) ∙ sym c.codes_fit.ensures ∙ c.if-not-codes_fit.false in
     let fitted : not (ltb x n) ≡ false = not_from_true (ltb x n) (lt-ltb x n (omega (arith, c.fitted.ensures, c.if-cabinet-fitted.false))) in
     let after : take (length records - 6) (drop 6 records) ≡ drop 6 records = take_all (length records - 6) (drop 6 records) (omega (arith, length-drop 6 records)) in
-    let stride : 6 + m * c.stored-width.result ≡ record_length C bytes = ap (λ q. 6 + m * q) c.stored-width.ensures ∙ ap (λ q. 6 + q * f.stored) c.requires.count in
-    let same : combined_record C bytes (at positions) (take (length records - 6) (drop 6 records)) (6 + m * c.stored-width.result) x c.read-issue.result.issue ≡ rebuilt C bytes positions records x =
-    ap (λ xs. combined_record C bytes (at positions) xs (6 + m * c.stored-width.result) x c.read-issue.result.issue) after
+    let stride : 6 + m * c.stored_width.result ≡ record_length C bytes = ap (λ q. 6 + m * q) c.stored_width.ensures ∙ ap (λ q. 6 + q * f.stored) c.requires.count in
+    let same : combined_record C bytes (at positions) (take (length records - 6) (drop 6 records)) (6 + m * c.stored_width.result) x c.read-issue.result.issue ≡ rebuilt C bytes positions records x =
+    ap (λ xs. combined_record C bytes (at positions) xs (6 + m * c.stored_width.result) x c.read-issue.result.issue) after
     ∙ ap (λ q. combined_record C bytes (at positions) (drop 6 records) q x c.read-issue.result.issue) stride
     ∙ ap (λ q. combined_record C bytes (at positions) (drop 6 records) (record_length C bytes) x q) issue ∙ rebuilt_is C L W bytes positions records x in
     record {
-      answers = c.cut-from.ensures.answers ∙ ap (λ q. cut_answer C n bytes x q (length out)) issue
+      answers = c.cut_from.ensures.answers ∙ ap (λ q. cut_answer C n bytes x q (length out)) issue
           ∙ cut_rest C n bytes records x (issue_in records) (length out) c.requires.sized fitted (records-issued C bytes records c.requires.records_ok) codes;
-      fills = c.cut-from.ensures.fills ∙ ap (λ xs. leaves c.cut-from.result out (over xs out)) same;
+      fills = c.cut_from.ensures.fills ∙ ap (λ xs. leaves c.cut_from.result out (over xs out)) same;
     }

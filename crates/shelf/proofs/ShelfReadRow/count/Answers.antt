@@ -4,4 +4,4 @@ use Rattle.shelf.proofs.ShelfReadRow.count.Goals as goal
 
 pub returns : goal.returns
 unfolding shelved
-returns c = c.cabinets-in.ensures ∙ ap (fitting _) c.used-room.ensures
+returns c = c.cabinets_in.ensures ∙ ap (fitting _) c.used_room.ensures

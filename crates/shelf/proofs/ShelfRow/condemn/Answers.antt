@@ -9,11 +9,11 @@ use Rattle.shelf.proofs.ShelfRow.condemn.Goals as goal
 pub returns : goal.returns
 returns c =
     let xs = c.args.self.now.memory.now in
-    let room = c.used-room-room.ensures in
-    let answer = c.condemn-in.result in
-    let is : answer ≡ slot_answer (shelved xs (room_of c.args.self.now.given)) c.args.cabinet c.args.file = c.condemn-in.ensures.answers ∙ ap (λ r. slot_answer (shelved xs r) c.args.cabinet c.args.file) room in
-    let kept : c.condemn-in.new.memory ≡ leaves answer xs (set xs (place (room_of c.args.self.now.given) c.args.cabinet c.args.file) 255) =
-    c.condemn-in.ensures.memory ∙ ap (λ r. leaves answer xs (set xs (place r c.args.cabinet c.args.file) 255)) room in
+    let room = c.used_room-room.ensures in
+    let answer = c.condemn_in.result in
+    let is : answer ≡ slot_answer (shelved xs (room_of c.args.self.now.given)) c.args.cabinet c.args.file = c.condemn_in.ensures.answers ∙ ap (λ r. slot_answer (shelved xs r) c.args.cabinet c.args.file) room in
+    let kept : c.condemn_in.new.memory ≡ leaves answer xs (set xs (place (room_of c.args.self.now.given) c.args.cabinet c.args.file) 255) =
+    c.condemn_in.ensures.memory ∙ ap (λ r. leaves answer xs (set xs (place r c.args.cabinet c.args.file) 255)) room in
     record {
       answers = is;
       becomes = slot_call xs _ _ (room_of c.args.self.now.given) c.args.cabinet answer _ kept c.args.file is (condemned_model xs (room_of c.args.self.now.given) c.args.cabinet c.args.file);

@@ -9,11 +9,11 @@ use Rattle.shelf.proofs.ShelfRow.plug.Goals as goal
 pub returns : goal.returns
 returns c =
     let xs = c.args.self.now.memory.now in
-    let room = c.used-room-room.ensures in
-    let answer = c.plug-into.result in
-    let is : answer ≡ cabinet_answer (shelved xs (room_of c.args.self.now.given)) c.args.cabinet = c.plug-into.ensures.answers ∙ ap (λ r. cabinet_answer (shelved xs r) c.args.cabinet) room in
-    let kept : c.plug-into.new.memory ≡ leaves answer xs (set xs (door (room_of c.args.self.now.given) c.args.cabinet) 1) =
-    c.plug-into.ensures.memory ∙ ap (λ r. leaves answer xs (set xs (door r c.args.cabinet) 1)) room in
+    let room = c.used_room-room.ensures in
+    let answer = c.plug_into.result in
+    let is : answer ≡ cabinet_answer (shelved xs (room_of c.args.self.now.given)) c.args.cabinet = c.plug_into.ensures.answers ∙ ap (λ r. cabinet_answer (shelved xs r) c.args.cabinet) room in
+    let kept : c.plug_into.new.memory ≡ leaves answer xs (set xs (door (room_of c.args.self.now.given) c.args.cabinet) 1) =
+    c.plug_into.ensures.memory ∙ ap (λ r. leaves answer xs (set xs (door r c.args.cabinet) 1)) room in
     record {
       answers = is;
       becomes = cabinet_call xs _ _ (room_of c.args.self.now.given) c.args.cabinet answer _ kept is (reach_model xs (room_of c.args.self.now.given) c.args.cabinet 1);

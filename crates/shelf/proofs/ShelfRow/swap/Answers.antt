@@ -10,11 +10,11 @@ use Rattle.shelf.proofs.ShelfRow.swap.Goals as goal
 pub returns : goal.returns
 returns c =
     let xs = c.args.self.now.memory.now in
-    let room = c.used-room-room.ensures in
-    let answer = c.swap-in.result in
-    let is : answer ≡ cabinet_answer (shelved xs (room_of c.args.self.now.given)) c.args.cabinet = c.swap-in.ensures.answers ∙ ap (λ r. cabinet_answer (shelved xs r) c.args.cabinet) room in
-    let kept : c.swap-in.new.memory ≡ leaves answer xs (with_empty_cabinet xs (room_of c.args.self.now.given) c.args.cabinet) =
-    c.swap-in.ensures.memory ∙ ap (λ r. leaves answer xs (with_empty_cabinet xs r c.args.cabinet)) room in
+    let room = c.used_room-room.ensures in
+    let answer = c.swap_in.result in
+    let is : answer ≡ cabinet_answer (shelved xs (room_of c.args.self.now.given)) c.args.cabinet = c.swap_in.ensures.answers ∙ ap (λ r. cabinet_answer (shelved xs r) c.args.cabinet) room in
+    let kept : c.swap_in.new.memory ≡ leaves answer xs (with_empty_cabinet xs (room_of c.args.self.now.given) c.args.cabinet) =
+    c.swap_in.ensures.memory ∙ ap (λ r. leaves answer xs (with_empty_cabinet xs r c.args.cabinet)) room in
     record {
       answers = is;
       becomes = cabinet_call xs _ _ (room_of c.args.self.now.given) c.args.cabinet answer _ kept is (λ there. swapped_model xs (room_of c.args.self.now.given) c.args.cabinet there (λ g h. (shelf_sound xs c.args.self.now.given).no_file c.args.cabinet g h));

@@ -9,4 +9,4 @@ returns g c =
     let file = c.args.bytes.now in
     let out = c.args.package.now in
     let fills = file_sealed E number key file c.requires.few c.requires.wide out c.seal.new.out c.seal.result c.requires.room c.seal.ensures.answers c.seal.ensures.fills in
-    record { fills = fills; bytes = Bytes-sealed E number key file c.requires.few c.requires.wide out c.seal.new.out (λ i. (c.type-inv.package i).fits) fills }
+    record { fills = fills; bytes = Bytes-sealed E number key file c.requires.few c.requires.wide out c.seal.new.out (λ i. (c.type_inv.package i).fits) fills }

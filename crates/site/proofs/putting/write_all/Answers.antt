@@ -12,10 +12,10 @@ loop-c-init g c =
     let f = g.F.Field in
     changed_none (g.R.ReadRow.model c.args.row.now) c.args.file (λ d. Held (record_from (coding f.ops f.width f.stored f.number c.args.plan.now.k) c.args.size c.args.slices.now d c.args.issue))
 
-pub write-at-requires : goal.write-at-requires
-write-at-requires g c = record {
+pub write_at-requires : goal.write_at-requires
+write_at-requires g c = record {
   fitted = omega (arith, c.fitted-c-end.ensures);
-  near = sym c.in-reach.ensures ∙ c.if-in-reach.true;
+  near = sym c.in_reach.ensures ∙ c.if-in_reach.true;
   there = c.requires.there;
   issued = c.requires.issued;
   fits = c.requires.fits;
@@ -28,12 +28,12 @@ loop-c-preserved g c =
     let f = g.F.Field in
     let model = g.R.ReadRow.model in
     changed_more (model c.args.row.now) c.args.file (λ d. Held (record_from (coding f.ops f.width f.stored f.number c.args.plan.now.k) c.args.size c.args.slices.now d c.args.issue))
-    (model c.loop-c.row) (model c.if-in-reach.row) c.loop-c.c c.in-reach.result c.loop-c.invariant c.in-reach.ensures
-    (λ near. elim c.if-in-reach.branch [
-      | then-in-reach w ↦ ap model w.row-is ∙ w.write-at.ensures
-      | else-in-reach w ↦ absurd (true≢false (sym near ∙ w.if-in-reach.false))
+    (model c.loop-c.row) (model c.if-in_reach.row) c.loop-c.c c.in_reach.result c.loop-c.invariant c.in_reach.ensures
+    (λ near. elim c.if-in_reach.branch [
+      | then-in-reach w ↦ ap model w.row-is ∙ w.write_at.ensures
+      | else-in-reach w ↦ absurd (true≢false (sym near ∙ w.if-in_reach.false))
     ])
-    (λ away. elim c.if-in-reach.branch [
-      | then-in-reach w ↦ absurd (true≢false (sym w.if-in-reach.true ∙ away))
+    (λ away. elim c.if-in_reach.branch [
+      | then-in-reach w ↦ absurd (true≢false (sym w.if-in_reach.true ∙ away))
       | else-in-reach w ↦ ap model w.row-is
     ])

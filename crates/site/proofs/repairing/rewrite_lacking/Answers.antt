@@ -3,7 +3,7 @@ use Rattle.std.proofs.lemmas.Result.{err_from_is_err_and}
 use Rattle.erasure.specs.Records.{coding}
 use Rattle.site.proofs.Rewriting.{Round, round_done, round-most, round_next, round_none, round_past, round-refused}
 use Rattle.site.proofs.repairing.rewrite_lacking.Goals as goal
-use Rattle.site.proofs.repairing.rewrite_lacking.Goals.{then-lacks+in-ok-rewrite, else-lacks}
+use Rattle.site.proofs.repairing.rewrite_lacking.Goals.{then-lacks+in_ok-rewrite, else-lacks}
 
 pub loop-c-init : goal.loop-c-init
 loop-c-init g c =
@@ -11,8 +11,8 @@ loop-c-init g c =
     let a = c.args in
     round_none (coding f.ops f.width f.stored f.number a.plan.now.k) a.plan.now.n a.bytes a.positions.now a.records.now a.due a.file (g.R.ReadRow.model a.row.now)
 
-pub overflow-add-count : goal.overflow-add-count
-overflow-add-count g c =
+pub overflow_add-count : goal.overflow_add-count
+overflow_add-count g c =
     let f = g.F.Field in
     let a = c.args in
     let model = g.R.ReadRow.model in
@@ -22,8 +22,8 @@ overflow-add-count g c =
           c.loop-c.c c.loop-c.count (model c.loop-c.row) c.loop-c.invariant,
     )
 
-pub returns-in-err-rewrite : goal.returns-in-err-rewrite
-returns-in-err-rewrite g c =
+pub returns-in_err-rewrite : goal.returns-in_err-rewrite
+returns-in_err-rewrite g c =
     let f = g.F.Field in
     let a = c.args in
     let l = c.loop-c in
@@ -31,8 +31,8 @@ returns-in-err-rewrite g c =
     let e = err_from_is_err_and c.from-residual.result c.from-residual.ensures.1 in
     let p = round-refused (coding f.ops f.width f.stored f.number a.plan.now.k) a.plan.now.n a.bytes a.positions.now a.records.now a.due a.file (model a.row.now)
     l.c l.count (model l.row) l.invariant c.lacks.result c.lacks.ensures (g.R.ReadRow.sound l.row) l.spread (omega (arith, l.auto.spread, c.requires.room)) c.from-whole.result
-    c.from-whole.ensures c.if-lacks.true (model c.rewrite.new.row) c.rewrite.result c.rewrite.ensures.answers c.rewrite.ensures.becomes c.in-err-rewrite.field-0.0
-    c.from-residual.result (omega (arith, c.loop-c-test.true, c.fitted-c-end.ensures)) c.in-err-rewrite.was (e.1 ∙ ap Err e.2) in
+    c.from-whole.ensures c.if-lacks.true (model c.rewrite.new.row) c.rewrite.result c.rewrite.ensures.answers c.rewrite.ensures.becomes c.in_err-rewrite.field-0.0
+    c.from-residual.result (omega (arith, c.loop-c-test.true, c.fitted-c-end.ensures)) c.in_err-rewrite.was (e.1 ∙ ap Err e.2) in
     record { answers = p.answers; becomes = p.becomes }
 
 pub loop-c-preserved : goal.loop-c-preserved
@@ -51,9 +51,9 @@ loop-c-preserved g c =
     λ row count e u h. subst (λ k. Round C n a.bytes ps rs a.due a.file m (l.c + 1) k (model c.if-lacks.row)) (sym u)
     (subst (λ x. Round C n a.bytes ps rs a.due a.file m (l.c + 1) count (model x)) (sym e) h) in
     elim c.if-lacks.branch [
-      | then-lacks+in-ok-rewrite w ↦ to _ _ w.row-is w.count-is (round_next C n a.bytes ps rs a.due a.file m l.c l.count (model l.row) l.invariant
+      | then-lacks+in_ok-rewrite w ↦ to _ _ w.row-is w.count-is (round_next C n a.bytes ps rs a.due a.file m l.c l.count (model l.row) l.invariant
           c.lacks.result c.lacks.ensures (g.R.ReadRow.sound l.row) l.spread (omega (arith, l.auto.spread, c.requires.room)) c.from-whole.result c.from-whole.ensures
-          w.if-lacks.true (model w.rewrite.new.row) w.rewrite.result w.rewrite.ensures.answers w.rewrite.ensures.becomes w.in-ok-rewrite.was)
+          w.if-lacks.true (model w.rewrite.new.row) w.rewrite.result w.rewrite.ensures.answers w.rewrite.ensures.becomes w.in_ok-rewrite.was)
       | else-lacks w ↦ to _ _ w.row-is w.count-is (round_past C n a.bytes ps rs a.due a.file m l.c l.count (model l.row) l.invariant c.lacks.result c.lacks.ensures w.if-lacks.false)
     ]
 

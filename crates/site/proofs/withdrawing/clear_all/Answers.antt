@@ -12,12 +12,12 @@ pub loop-c-preserved : goal.loop-c-preserved
 loop-c-preserved g c =
     let model = g.R.ReadRow.model in
     let row = c.loop-c.row in
-    changed_more (model c.args.row.now) c.args.file (λ d. Empty) (model row) (model c.if-in-reach.row) c.loop-c.c c.in-reach.result c.loop-c.invariant c.in-reach.ensures
-    (λ near. elim c.if-in-reach.branch [
-      | then-in-reach w ↦ ap model w.row-is ∙ cleared (model row) (model w.clear.new.self) (g.R.ReadRow.sound row) c.loop-c.c c.args.file w.clear.result (sym c.in-reach.ensures ∙ near) c.requires w.clear.ensures.answers w.clear.ensures.becomes
-      | else-in-reach w ↦ absurd (true≢false (sym near ∙ w.if-in-reach.false))
+    changed_more (model c.args.row.now) c.args.file (λ d. Empty) (model row) (model c.if-in_reach.row) c.loop-c.c c.in_reach.result c.loop-c.invariant c.in_reach.ensures
+    (λ near. elim c.if-in_reach.branch [
+      | then-in-reach w ↦ ap model w.row-is ∙ cleared (model row) (model w.clear.new.self) (g.R.ReadRow.sound row) c.loop-c.c c.args.file w.clear.result (sym c.in_reach.ensures ∙ near) c.requires w.clear.ensures.answers w.clear.ensures.becomes
+      | else-in-reach w ↦ absurd (true≢false (sym near ∙ w.if-in_reach.false))
     ])
-    (λ away. elim c.if-in-reach.branch [
-      | then-in-reach w ↦ absurd (true≢false (sym w.if-in-reach.true ∙ away))
+    (λ away. elim c.if-in_reach.branch [
+      | then-in-reach w ↦ absurd (true≢false (sym w.if-in_reach.true ∙ away))
       | else-in-reach w ↦ ap model w.row-is
     ])

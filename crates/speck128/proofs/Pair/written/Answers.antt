@@ -7,4 +7,4 @@ pub returns : goal.returns
 unfolding joined
 returns c =
     let p = c.args.self in
-    two_of_eight _ _ p.y p.x (c.to-le-bytes-y.ensures ∙ sym (eight_of p.y)) (c.to-le-bytes-x.ensures ∙ sym (eight_of p.x))
+    two_of_eight _ _ p.y p.x (c.to_le_bytes-y.ensures ∙ sym (eight_of p.y)) (c.to_le_bytes-x.ensures ∙ sym (eight_of p.x))

@@ -3,8 +3,8 @@ use Rattle.rows.specs.Model.{held}
 use Rattle.standing.proofs.EndToEnd.{gather_next, gathered, piece_within}
 use Rattle.standing.proofs.gathering.gather.Goals as goal
 
-pub slice-bounds-read-end : goal.slice-bounds-read-end
-slice-bounds-read-end g c =
+pub slice_bounds-read-end : goal.slice_bounds-read-end
+slice_bounds-read-end g c =
     let end : c.loop-i.i * c.args.stride + c.args.stride ≤ length c.loop-i.out =
     piece_within c.loop-i.i (length c.args.positions.now) c.args.stride (length c.args.out.now) (length c.loop-i.out) c.fits.result c.loop-i-test.true
     c.fits.ensures c.if-not-fits.false c.loop-i.auto.out in

@@ -3,5 +3,5 @@ use Rattle.aes128.proofs.columns.Columns.after_round.Goals as goal
 
 pub returns : goal.returns
 returns c =
-    round_bytes c.args.self.now c.args.key.now _ c.round-column.ensures c.round-column-2.ensures c.round-column-3.ensures
-    c.round-column-4.ensures
+    round_bytes c.args.self.now c.args.key.now _ c.round_column.ensures c.round_column-2.ensures c.round_column-3.ensures
+    c.round_column-4.ensures

@@ -9,23 +9,23 @@ loop-j-init g c =
     let v = g.Self.Field.stored in
     stored_none (λ j. combined_at g.Self.Field.ops v c.args.weights.now c.args.sources.now c.args.stride (j * v)) v c.args.out.now
 
-pub overflow-mul-place : goal.overflow-mul-place
-overflow-mul-place g c = omega (arith, place-within c.loop-j.j c.stored-width-width.result (length c.args.out.now) c.loop-j-test.true)
+pub overflow_mul-place : goal.overflow_mul-place
+overflow_mul-place g c = omega (arith, place-within c.loop-j.j c.stored_width-width.result (length c.args.out.now) c.loop-j-test.true)
 
 pub loop-j-preserved : goal.loop-j-preserved
 unfolding combined
 loop-j-preserved g c =
     let v = g.Self.Field.stored in
     let code : ℕ → ℕ = λ j. combined_at g.Self.Field.ops v c.args.weights.now c.args.sources.now c.args.stride (j * v) in
-    stored_next code v c.stored-width-width.result c.stored-width-width.ensures c.args.out.now c.loop-j.out c.put-le.new.out c.loop-j.j
-    c.combine-at.result c.loop-j.invariant c.loop-j.auto.out c.loop-j-test.true
-    (c.combine-at.ensures ∙ ap (λ w. combined_at g.Self.Field.ops v c.args.weights.now c.args.sources.now c.args.stride (c.loop-j.j * w)) c.stored-width-width.ensures)
-    c.put-le.ensures
+    stored_next code v c.stored_width-width.result c.stored_width-width.ensures c.args.out.now c.loop-j.out c.put_le.new.out c.loop-j.j
+    c.combine_at.result c.loop-j.invariant c.loop-j.auto.out c.loop-j-test.true
+    (c.combine_at.ensures ∙ ap (λ w. combined_at g.Self.Field.ops v c.args.weights.now c.args.sources.now c.args.stride (c.loop-j.j * w)) c.stored_width-width.ensures)
+    c.put_le.ensures
 
 pub returns : goal.returns
 unfolding combined
 returns g c =
     let v = g.Self.Field.stored in
     let code : ℕ → ℕ = λ j. combined_at g.Self.Field.ops v c.args.weights.now c.args.sources.now c.args.stride (j * v) in
-    let last : c.loop-j.j ≡ length c.args.out.now / c.stored-width-width.result = omega arith in
-    stored-end code v c.stored-width-width.result c.stored-width-width.ensures c.args.out.now c.loop-j.out c.loop-j.j last c.loop-j.invariant
+    let last : c.loop-j.j ≡ length c.args.out.now / c.stored_width-width.result = omega arith in
+    stored-end code v c.stored_width-width.result c.stored_width-width.ensures c.args.out.now c.loop-j.out c.loop-j.j last c.loop-j.invariant

@@ -9,8 +9,8 @@ loop-file-init g c =
     let S = model_of g.R.ReadRow g.F.Field g.C.Cipher c.args.self.now in
     sym (set_none (λ f. (kept S f).current && not (ltb c.args.cabinet (fitted S) && standing S f c.args.cabinet)))
 
-pub with-file-left-requires : goal.with-file-left-requires
-with-file-left-requires g c =
+pub with_file-left-requires : goal.with_file-left-requires
+with_file-left-requires g c =
     let S = model_of g.R.ReadRow g.F.Field g.C.Cipher c.args.self.now in (
       omega (arith, c.loop-file-test.true),
       set_below (λ f. (kept S f).current && not (ltb c.args.cabinet (fitted S) && standing S f c.args.cabinet)) c.loop-file.file c.loop-file.left c.loop-file.invariant,
@@ -19,5 +19,5 @@ with-file-left-requires g c =
 pub loop-file-preserved : goal.loop-file-preserved
 loop-file-preserved g c =
     let S = model_of g.R.ReadRow g.F.Field g.C.Cipher c.args.self.now in
-    set_next (λ f. (kept S f).current && not (ltb c.args.cabinet (fitted S) && standing S f c.args.cabinet)) c.loop-file.file c.loop-file.left c.with-file-left.result
-    c.is-left.result c.loop-file.invariant c.is-left.ensures c.with-file-left.ensures
+    set_next (λ f. (kept S f).current && not (ltb c.args.cabinet (fitted S) && standing S f c.args.cabinet)) c.loop-file.file c.loop-file.left c.with_file-left.result
+    c.is_left.result c.loop-file.invariant c.is_left.ensures c.with_file-left.ensures

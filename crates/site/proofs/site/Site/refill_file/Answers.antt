@@ -6,8 +6,8 @@ use Rattle.site.proofs.Repairs.{are_enough, collected, is_kept, within}
 use Rattle.site.proofs.Refills.{refill_left, refill_told, spread_end}
 use Rattle.site.proofs.site.Site.refill_file.Goals as goal
 
-pub slice-bounds-rewrite-end-2 : goal.slice-bounds-rewrite-end-2
-slice-bounds-rewrite-end-2 g c =
+pub slice_bounds-rewrite-end-2 : goal.slice_bounds-rewrite-end-2
+slice_bounds-rewrite-end-2 g c =
     let S = model_of g.R.ReadRow g.F.Field g.C.Cipher c.args.self.now in
     let f = c.args.file in
     let here = sym c.current.ensures ∙ c.in-Ok.is in
@@ -23,8 +23,8 @@ slice-bounds-rewrite-end-2 g c =
     ) in
     search rules
 
-pub slice-bounds-rewrite-end-3 : goal.slice-bounds-rewrite-end-3
-slice-bounds-rewrite-end-3 g c =
+pub slice_bounds-rewrite-end-3 : goal.slice_bounds-rewrite-end-3
+slice_bounds-rewrite-end-3 g c =
     let S = model_of g.R.ReadRow g.F.Field g.C.Cipher c.args.self.now in
     let f = c.args.file in
     let last = c.in-Ok.last in
@@ -57,8 +57,8 @@ returns g c =
     collected S f sound (omega (arith, c.args.self.now.plan.fits)) more c.args.records.now out got.records got.long (k * w - 0) size in
     record {
       answers = refill_told S c.args.cabinet f c.args.short last here c.due-due.result due can sound c.args.records.now c.args.spread.now c.requires.long w c.from-whole.ensures more
-          c.package_length.result (take (k - 0) c.in-Ok-collect.positions) (take (k * w - 0) out) bytes ps rs c.rewrite.result c.is-ok.result c.is-ok.ensures.value c.rewrite.ensures.answers;
+          c.package_length.result (take (k - 0) c.in-Ok-collect.positions) (take (k * w - 0) out) bytes ps rs c.rewrite.result c.is_ok.result c.is_ok.ensures.value c.rewrite.ensures.answers;
       becomes = refill_left S c.args.cabinet f c.args.short last here c.due-due.result due can sound c.args.records.now c.args.spread.now c.requires.long w c.from-whole.ensures more
-          c.package_length.result (take (k - 0) c.in-Ok-collect.positions) (take (k * w - 0) out) bytes ps rs c.rewrite.result c.is-ok.result c.is-ok.ensures.value
+          c.package_length.result (take (k - 0) c.in-Ok-collect.positions) (take (k * w - 0) out) bytes ps rs c.rewrite.result c.is_ok.result c.is_ok.ensures.value
           (g.R.ReadRow.model c.rewrite.new.row) c.rewrite.ensures.becomes;
     }

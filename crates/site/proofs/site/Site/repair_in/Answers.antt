@@ -5,14 +5,14 @@ use Rattle.site.specs.Whole.{model_of}
 use Rattle.site.proofs.Repairs.{are_enough, collected, is_kept, repair_left, repair_told, within}
 use Rattle.site.proofs.site.Site.repair_in.Goals as goal
 
-pub slice-bounds-rewrite-lacking-end-2 : goal.slice-bounds-rewrite-lacking-end-2
-slice-bounds-rewrite-lacking-end-2 g c =
+pub slice_bounds-rewrite_lacking-end-2 : goal.slice_bounds-rewrite_lacking-end-2
+slice_bounds-rewrite_lacking-end-2 g c =
     let S = model_of g.R.ReadRow g.F.Field g.C.Cipher c.args.self.now in
     let f = c.args.file in
-    let here = sym c.current.ensures ∙ c.in-ok-last.was in
-    let more = are_enough S f c.collect.result c.in-ok-positions.positions c.collect.ensures.answers c.in-ok-positions.was in
-    let got = c.in-ok-positions.ensures in
-    let due = c.due-due.ensures ∙ ap (due_for S.fit) (is_kept S f c.in-ok-last.last here) in
+    let here = sym c.current.ensures ∙ c.in_ok-last.was in
+    let more = are_enough S f c.collect.result c.in_ok-positions.positions c.collect.ensures.answers c.in_ok-positions.was in
+    let got = c.in_ok-positions.ensures in
+    let due = c.due-due.ensures ∙ ap (due_for S.fit) (is_kept S f c.in_ok-last.last here) in
     let all : c.needed-k.result * c.from.result ≡ needed S * whole S f =
     ap (λ k. k * c.from.result) c.needed-k.ensures ∙ ap (λ w. needed S * w) (c.from.ensures ∙ ap (λ h. h.whole) due) in
     let end : c.needed-k.result * c.from.result ≤ length c.collect.new.out = omega (
@@ -26,23 +26,23 @@ pub returns : goal.returns
 returns g c =
     let S = model_of g.R.ReadRow g.F.Field g.C.Cipher c.args.self.now in
     let f = c.args.file in
-    let last = c.in-ok-last.last in
-    let here = sym c.current.ensures ∙ c.in-ok-last.was in
-    let more = are_enough S f c.collect.result c.in-ok-positions.positions c.collect.ensures.answers c.in-ok-positions.was in
-    let got = c.in-ok-positions.ensures in
+    let last = c.in_ok-last.last in
+    let here = sym c.current.ensures ∙ c.in_ok-last.was in
+    let more = are_enough S f c.collect.result c.in_ok-positions.positions c.collect.ensures.answers c.in_ok-positions.was in
+    let got = c.in_ok-positions.ensures in
     let k = c.needed-k.result in
     let out = c.collect.new.out in
     let bytes = c.package_length.ensures ∙ ap (λ q. package_length q.size) (is_kept S f last here) in
     let due = c.due-due.ensures ∙ ap (due_for S.fit) (is_kept S f last here) in
     let few : k - 0 ≡ needed S = omega (arith, c.needed-k.ensures) in
-    let ps : take (k - 0) c.in-ok-positions.positions ≡ positions S f = ap (λ q. take q c.in-ok-positions.positions) few ∙ got.positions in
+    let ps : take (k - 0) c.in_ok-positions.positions ≡ positions S f = ap (λ q. take q c.in_ok-positions.positions) few ∙ got.positions in
     let all : k * c.from.result ≡ needed S * whole S f = ap (λ q. q * c.from.result) c.needed-k.ensures ∙ ap (λ w. needed S * w) (c.from.ensures ∙ ap (λ h. h.whole) due) in
     let size : k * c.from.result - 0 ≡ needed S * whole S f = omega (arith, all) in
     let rs : take (k * c.from.result - 0) out ≡ records S f =
     collected S f (g.R.ReadRow.sound c.args.self.now.row) (omega (arith, c.args.self.now.plan.fits)) more c.args.records.now out got.records got.long (k * c.from.result - 0) size in
     record {
-      answers = repair_told S f last here more c.args.short c.if-short.false c.package_length.result (take (k - 0) c.in-ok-positions.positions) (take (k * c.from.result - 0) out)
-          c.due-due.result bytes ps rs due c.rewrite-lacking.result (g.R.ReadRow.model c.rewrite-lacking.new.row) c.rewrite-lacking.ensures.answers;
-      becomes = repair_left S f last here more c.args.short c.if-short.false c.package_length.result (take (k - 0) c.in-ok-positions.positions) (take (k * c.from.result - 0) out)
-          c.due-due.result bytes ps rs due c.rewrite-lacking.result (g.R.ReadRow.model c.rewrite-lacking.new.row) c.rewrite-lacking.ensures.becomes;
+      answers = repair_told S f last here more c.args.short c.if-short.false c.package_length.result (take (k - 0) c.in_ok-positions.positions) (take (k * c.from.result - 0) out)
+          c.due-due.result bytes ps rs due c.rewrite_lacking.result (g.R.ReadRow.model c.rewrite_lacking.new.row) c.rewrite_lacking.ensures.answers;
+      becomes = repair_left S f last here more c.args.short c.if-short.false c.package_length.result (take (k - 0) c.in_ok-positions.positions) (take (k * c.from.result - 0) out)
+          c.due-due.result bytes ps rs due c.rewrite_lacking.result (g.R.ReadRow.model c.rewrite_lacking.new.row) c.rewrite_lacking.ensures.becomes;
     }

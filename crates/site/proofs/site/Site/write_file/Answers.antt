@@ -12,10 +12,10 @@ returns g c =
     let S = model_of g.R.ReadRow g.F.Field g.C.Cipher c.args.self.now in
     let file = c.args.bytes.now in
     let issue = c.args.issue in
-    let laid = c.seal-and-spread.new.slices in
+    let laid = c.seal_and_spread.new.slices in
     let pkg = sealed g.C.Cipher.encrypted g.C.Cipher.number c.args.key.now file in
     let each : (d : ℕ) → record_from (code S) c.package_length.result laid d issue ≡ record_of (code S) pkg d issue =
-    λ d. ap (λ n. record_from (code S) n laid d issue) c.package_length.ensures ∙ c.seal-and-spread.ensures d issue in
+    λ d. ap (λ n. record_from (code S) n laid d issue) c.package_length.ensures ∙ c.seal_and_spread.ensures d issue in
     ap (λ m. with_files S (set S.files c.args.file (record { last = issue; current = true; size = length file })) m)
-    (c.write-all.ensures
+    (c.write_all.ensures
     ∙ same_records S.row (near S) c.args.file (λ d. record_from (code S) c.package_length.result laid d issue) (λ d. record_of (code S) pkg d issue) each)

@@ -4,11 +4,11 @@ use Rattle.algebra.specs.Polynomials.{at}
 use Rattle.algebra.proofs.Stored.{stored-least}
 use Rattle.erasure.specs.Records.{coding}
 use Rattle.erasure.proofs.Reading.{one_slice}
-use Rattle.erasure.proofs.Weighing.{record_laid}
-use Rattle.erasure.proofs.cutting.cut_from.Goals as goal
+use Rattle.erasure.proofs.Points.{combined_laid}
+use Rattle.erasure.proofs.combining.cut_from.Goals as goal
 
-pub write-record-requires : goal.write-record-requires
-write-record-requires g c =
+pub write_combined-requires : goal.write_combined-requires
+write_combined-requires g c =
     let whole = c.in-Some.whole in
     let plan = c.args.plan.now.fits in
     let small : whole - 6 ≤ 6400 = one_slice c.args.plan.now.k (whole - 6) 6400 (omega (arith, plan)) c.in-Some.ensures.2 in
@@ -24,7 +24,7 @@ returns g c =
     let f = g.F.Field in
     record {
       answers = search rules;
-      fills = record_laid (coding f.ops f.width f.stored f.number c.args.plan.now.k) c.args.bytes c.args.cabinet c.args.issue (at c.args.positions.now) c.args.slices.now c.args.out.now
-          c.write-record.new.out c.in-Some.whole c.args.stride c.in-Some.ensures.1
-          (stored-least f.ops g.met.F.Field.lawful f.width f.stored f.number g.met.F.Field.widths) c.if-out-whole.false c.write-record.ensures;
+      fills = combined_laid (coding f.ops f.width f.stored f.number c.args.plan.now.k) c.args.bytes c.args.cabinet c.args.issue (at c.args.positions.now) c.args.slices.now c.args.out.now
+          c.write_combined.new.out c.in-Some.whole c.args.stride c.in-Some.ensures.1
+          (stored-least f.ops g.met.F.Field.lawful f.width f.stored f.number g.met.F.Field.widths) c.if-out-whole.false c.write_combined.ensures;
     }
