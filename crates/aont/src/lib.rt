@@ -23,7 +23,7 @@ mod opening;
 const LONGEST_FILE: usize = 4092;
 
 // The length of the package of a file of so many bytes.
-pub fn package_length(size: u16) -> usize
+pub fn package_size(size: u16) -> usize
     ensures { result ≡ package_length size }
 {
     16 * ((usize::from(size) + 19) / 16) + 32
@@ -40,7 +40,7 @@ pub fn sealed_length(key: &[u8], file: &[u8]) -> Result<usize, SealFault>
     if key.len() != 16 {
         return Err(SealFault::KeyNotSixteen);
     }
-    Ok(package_length(file.len() as u16))
+    Ok(package_length(file.len()))
 }
 
 // Seals a file under a key that the caller draws, into the front of the output, and answers the package's length.
@@ -91,6 +91,13 @@ fn unseal_tested<C: Cipher>(package: &[u8], out: &mut [u8]) -> Result<usize, Sea
     Ok(size)
 }
 
+fn package_length(file: usize) -> usize
+    requires { file ≤ 4092 }
+    ensures { result ≡ package_length file }
+{
+    package_size(file as u16)
+}
+
 // Writes a package into the front of an output that is long enough.
 fn seal_into<C: Cipher>(key: &[u8], file: &[u8], out: &mut [u8])
     requires short { length file.now ≤ 4092 }
@@ -100,7 +107,7 @@ fn seal_into<C: Cipher>(key: &[u8], file: &[u8], out: &mut [u8])
 {
     let key = block_at(key, 0);
     let cipher = C::with_key(&key);
-    let end = package_length(file.len() as u16) - 16;
+    let end = package_length(file.len()) - 16;
     lay_out(C::cipher_number(), file, out);
     mask_blocks(&cipher, &mut out[0..end]);
     let last = bind::<C>(key, &out[0..end]);

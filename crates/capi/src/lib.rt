@@ -2,6 +2,7 @@
 // number of a refusal negated. include/runnelpan.h declares them.
 #![tactic(auto)]
 
+mod answers;
 mod numbers;
 pub mod sealing;
 pub mod slicing;

@@ -1,5 +1,5 @@
 // Sealing and unsealing for C.
-ghost use Rattle.std.specs.Prelude.{◌≡◌, ◌^◌, ◌<◌, length, IfOk};
+ghost use Rattle.std.specs.Prelude.{◌≡◌, length};
 ghost use Rattle.base.specs.Answers.{leaves};
 ghost use Rattle.base.specs.Bytes.{over};
 ghost use Rattle.aont.specs.Package.{sealed};
@@ -7,22 +7,11 @@ ghost use Rattle.aont.specs.Seals.{seal_number, seal_answer, unseal_answer, unse
 ghost use Rattle.capi.specs.Calls.{signed};
 ghost use Rattle.capi.specs.Sealing.{seal_call, seal_leaves, unseal_call, unseal_leaves, UnsealsExactly};
 
-use crate::numbers::{AES_128, SPECK_128, UNKNOWN};
+use crate::answers::{AES_128, SPECK_128, UNKNOWN_CIPHER, in_one_number};
 use aes128::Aes128;
-use aont::{SealFault, seal, unseal};
+use aont::{seal, unseal};
 use cipher::Cipher;
 use speck128::Speck128;
-
-// A length, or a refusal's number negated.
-fn in_one_number(answer: Result<usize, SealFault>) -> i64
-    requires { IfOk answer (λ n. n < 2 ^ 63) }
-    ensures { result ≡ signed seal_number answer }
-{
-    match answer {
-        Ok(length) => length as i64,
-        Err(fault) => -i64::from(fault.number()),
-    }
-}
 
 fn seal_with<C: Cipher>(key: &[u8], file: &[u8], out: &mut [u8]) -> i64
     ensures answers { result ≡ signed seal_number (seal_answer (length file.now) (length key.now) (length out.old)) }
@@ -42,7 +31,7 @@ pub extern "C" fn runnelpan_seal(cipher: u32, key: &[u8], file: &[u8], out: &mut
     match cipher {
         AES_128 => seal_with::<Aes128>(key, file, out),
         SPECK_128 => seal_with::<Speck128>(key, file, out),
-        _ => UNKNOWN,
+        _ => UNKNOWN_CIPHER,
     }
 }
 
@@ -66,6 +55,6 @@ pub extern "C" fn runnelpan_unseal(cipher: u32, package: &[u8], out: &mut [u8]) 
     match cipher {
         AES_128 => unseal_with::<Aes128>(package, out),
         SPECK_128 => unseal_with::<Speck128>(package, out),
-        _ => UNKNOWN,
+        _ => UNKNOWN_CIPHER,
     }
 }

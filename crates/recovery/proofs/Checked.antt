@@ -18,7 +18,7 @@ use Rattle.algebra.specs.Slices.{stored_at, combined_at, combined}
 use Rattle.erasure.specs.declared.fault.SliceCause.TheVariants.{PackageMisfit, RecordsMisfit}
 use Rattle.erasure.specs.declared.fault.SliceFault.{SliceFault}
 use Rattle.erasure.specs.Records.{Coding, columns, head, issue_in, record_length, record_with, given_symbol}
-use Rattle.erasure.specs.Formula.{weights_for, combined_record}
+use Rattle.erasure.specs.Formula.{point_weights, combined_record}
 use Rattle.recovery.specs.Formula.{worked_out, worked_slice, recovered, package_from, rebuilt}
 use Rattle.erasure.specs.Slices.{fault_of, cut_answer}
 use Rattle.recovery.specs.Answers.{given_records, positions_fit, records_fit, codes_fit, data_fits, rebuild_rest}
@@ -97,8 +97,8 @@ module _ (C : Coding) (L : Laws C.ops) (W : Widths C.ops C.width C.stored C.numb
       let L6 = record_length C bytes in
       let slice : ℕ → List ℕ = worked_slice C positions (drop 6 records) L6 m in
       let bs = flat_map slice (range_with_len 0 C.needed) ++ rest in
-      let own : ℕ → ℕ = λ j. combined_at C.ops v (weights_for C (at positions) i) (drop 6 records) L6 (j * v) in
-      let wide : (i : ℕ) → length (slice i) ≡ n = λ i. length-combined C.ops v (weights_for C (at positions) i) (drop 6 records) L6 m in
+      let own : ℕ → ℕ = λ j. combined_at C.ops v (point_weights C (at positions) i) (drop 6 records) L6 (j * v) in
+      let wide : (i : ℕ) → length (slice i) ≡ n = λ i. length-combined C.ops v (point_weights C (at positions) i) (drop 6 records) L6 m in
       let room : j * v + v ≤ n = omega (arith, add-mul j 1 v, one-mul v, mul-le-mul_right v hj) in
       let value : own j ≡ worked_out C bytes positions records j i =
       combined_value C L W (at positions) (λ p. given_symbol C bytes records p j) (drop 6 records) L6 (j * v) i (λ p hp. after_heads bytes records p j) in

@@ -7,7 +7,7 @@ use Rattle.algebra.specs.Lagrange.{lagrange}
 use Rattle.algebra.specs.Polynomials.{at}
 use Rattle.algebra.specs.Slices.{combined}
 use Rattle.erasure.specs.Records.{Coding, issue_in, record_with, given_symbol}
-use Rattle.erasure.specs.Formula.{weights_for}
+use Rattle.erasure.specs.Formula.{point_weights}
 
 -- what is worked out for column j and code x from records end to end
 unfoldable pub worked_out : Coding → ℕ → List ℕ → List ℕ → ℕ → ℕ → ℕ
@@ -15,7 +15,7 @@ worked_out C bytes positions records j x = lagrange C.ops C.needed (at positions
 
 -- slice i of the package that is worked out: the symbol i of each of the first m columns, stored; and all slices
 abbrev pub worked_slice : Coding → List ℕ → List ℕ → ℕ → ℕ → ℕ → List ℕ
-worked_slice C positions slices stride m i = combined C.ops C.stored (weights_for C (at positions) i) slices stride m
+worked_slice C positions slices stride m i = combined C.ops C.stored (point_weights C (at positions) i) slices stride m
 
 unfoldable pub recovered : Coding → List ℕ → List ℕ → ℕ → ℕ → List ℕ
 recovered C positions slices stride m = flat_map (worked_slice C positions slices stride m) (range_with_len 0 C.needed)

@@ -3,7 +3,7 @@ use borrow.Author.Tests.{eqb-false}
 use Rattle.gf256.specs.Slices.{bit_of, bits_added}
 use Rattle.gf256.proofs.Sums.{bits_none, bits_more, bits_same}
 use Rattle.gf256.proofs.slices.add_bit.Goals as goal
-use Rattle.gf256.proofs.slices.add_bit.Goals.{then-has-bit, else-has-bit}
+use Rattle.gf256.proofs.slices.add_bit.Goals.{then-has_bit, else-has_bit}
 
 pub loop-i-init : goal.loop-i-init
 loop-i-init c = bits_none c.args.bit c.args.out.now c.args.weights.now c.args.sources.now c.args.stride
@@ -17,11 +17,11 @@ loop-i-preserved c =
     let i = c.loop-i.i in
     let few : length bs ≤ 18446744073709551615 = omega arith in
     elim c.if-has_bit.branch [
-      | then-has-bit w ↦
+      | then-has_bit w ↦
           w.out-is ∙ w.add_from.ensures
           ∙ bits_more bit xs ws bs c.args.stride i c.loop-i.out w.saturating_mul.result 18446744073709551615 c.loop-i.invariant few w.saturating_mul.ensures
           (eqb-true (bit_of (get_or ws i 0) bit) 1 (sym c.has_bit.ensures ∙ w.if-has_bit.true))
-      | else-has-bit w ↦
+      | else-has_bit w ↦
           w.out-is
           ∙ bits_same bit xs ws bs c.args.stride i c.loop-i.out c.loop-i.invariant
           (let no_one : bit_of (get_or ws i 0) bit ≡ 1 → ⊥ = eqb-false (bit_of (get_or ws i 0) bit) 1 (sym c.has_bit.ensures ∙ w.if-has_bit.false) in

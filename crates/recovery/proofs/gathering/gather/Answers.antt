@@ -41,8 +41,8 @@ loop-t-preserved g c =
     ∙ ap (λ i. stored_at f.stored slices (i * size + c.loop-t.j * f.stored)) i_is ∙ ap (λ j. stored_at f.stored slices (t % k * size + j * f.stored)) j_is in
     let counted : (c.if-i-k.i ≡ (t + 1) % k) × (c.if-i-k.j ≡ (t + 1) / k) =
     elim c.if-i-k.branch [
-      | then-i-k w ↦ let n = next_column t k low (omega (arith, w.if-i-k.true)) in (w.i_is ∙ sym n.0, w.j_is ∙ ap (λ j. j + 1) j_is ∙ sym n.1)
-      | else-i-k w ↦ let n = same_column t k (omega (arith, w.if-i-k.false)) in (w.i_is ∙ ap (λ i. i + 1) i_is ∙ sym n.0, w.j_is ∙ j_is ∙ sym n.1)
+      | then-i-k w ↦ let n = next_column t k low (omega (arith, w.if-i-k.true)) in (w.i-is ∙ sym n.0, w.j-is ∙ ap (λ j. j + 1) j_is ∙ sym n.1)
+      | else-i-k w ↦ let n = same_column t k (omega (arith, w.if-i-k.false)) in (w.i-is ∙ ap (λ i. i + 1) i_is ∙ sym n.0, w.j-is ∙ j_is ∙ sym n.1)
     ] in (
       stored_next own f.width c.data_width-width.result c.data_width-width.ensures c.args.out.now c.loop-t.out c.put_le.new.out t
           c.le_at.result c.loop-t.invariant.0 c.loop-t.auto.out c.loop-t-test.true read c.put_le.ensures,

@@ -7,7 +7,7 @@ use Rattle.algebra.specs.Polynomials.{at}
 use Rattle.algebra.specs.Slices.{combined}
 use Rattle.algebra.proofs.Stored.{stored-least}
 use Rattle.erasure.specs.Records.{coding}
-use Rattle.erasure.specs.Formula.{weights_for}
+use Rattle.erasure.specs.Formula.{point_weights}
 use Rattle.erasure.proofs.Spreading.{slices_more, slices_all}
 use Rattle.erasure.proofs.Weighing.{length-combined}
 use Rattle.recovery.specs.Formula.{worked_slice, recovered}
@@ -39,7 +39,7 @@ slice_bounds-slices-end g c =
     let end : (i + 1) * size ≤ 6400 = within i c.args.plan.now.k size m f.stored (omega (arith, c.needed-i-end.ensures)) es c.requires.bound in
     let long : length c.loop-i.slices ≡ 6400 =
     laid-long (worked_slice C c.args.positions.now records (6 + size) m) c.loop-i.slices i size
-    (λ j. length-combined f.ops f.stored (weights_for C (at c.args.positions.now) j) records (6 + size) m ∙ sym es) end c.loop-i.invariant in
+    (λ j. length-combined f.ops f.stored (point_weights C (at c.args.positions.now) j) records (6 + size) m ∙ sym es) end c.loop-i.invariant in
     search rules
 
 pub loop-i-preserved : goal.loop-i-preserved
@@ -54,7 +54,7 @@ loop-i-preserved g c =
     let i = c.loop-i.i in
     let C = coding f.ops f.width f.stored f.number c.args.plan.now.k in
     let own = worked_slice C positions (drop 6 records) (6 + size) in
-    let wide : (n j : ℕ) → length (own n j) ≡ n * f.stored = λ n j. length-combined f.ops f.stored (weights_for C (at positions) j) (drop 6 records) (6 + size) n in
+    let wide : (n j : ℕ) → length (own n j) ≡ n * f.stored = λ n j. length-combined f.ops f.stored (point_weights C (at positions) j) (drop 6 records) (6 + size) n in
     let part = take ((i + 1) * size - i * size) (drop (i * size) c.loop-i.slices) in
     let after : take (length records - 6) (drop 6 records) ≡ drop 6 records = take_all (length records - 6) (drop 6 records) (omega (arith, length-drop 6 records)) in
     let end : (i + 1) * size ≤ 6400 = within i c.args.plan.now.k size m f.stored (omega (arith, c.needed-i-end.ensures)) es c.requires.bound in
@@ -62,7 +62,7 @@ loop-i-preserved g c =
     (stored-least f.ops g.met.F.Field.lawful f.width f.stored f.number g.met.F.Field.widths) es c.loop-i.invariant
     (laid-long (own m) c.loop-i.slices i size (λ j. wide m j ∙ sym es) end c.loop-i.invariant ∙ sym (length-replicate {A = ℕ} 6400 0))
     (omega (arith, end, length-replicate {A = ℕ} 6400 0))
-    (c.symbols_at.ensures ∙ ap (λ xs. over (combined f.ops f.stored (weights_for C (at positions) i) xs (6 + size) (length part / f.stored)) part) after)
+    (c.symbols_at.ensures ∙ ap (λ xs. over (combined f.ops f.stored (point_weights C (at positions) i) xs (6 + size) (length part / f.stored)) part) after)
 
 pub returns : goal.returns
 unfolding recovered
@@ -78,6 +78,6 @@ returns g c =
     let own = worked_slice C positions (drop 6 records) (6 + size) in
     let last : c.loop-i.i ≡ k = omega (arith, c.needed-i-end.ensures) in
     let es : size ≡ m * f.stored = ap (λ n. m * n) c.stored_width.ensures in
-    slices_all f.stored m own (λ n j. length-combined f.ops f.stored (weights_for C (at positions) j) (drop 6 records) (6 + size) n) zeros c.loop-i.slices c.loop-i.i size k es last c.loop-i.invariant
+    slices_all f.stored m own (λ n j. length-combined f.ops f.stored (point_weights C (at positions) j) (drop 6 records) (6 + size) n) zeros c.loop-i.slices c.loop-i.i size k es last c.loop-i.invariant
     ∙ ap (λ n. over (recovered C positions (drop 6 records) (6 + n) m) zeros) es
     ∙ ap (λ n. over (recovered C positions (drop 6 records) (6 + n * f.stored) m) zeros) c.requires.count

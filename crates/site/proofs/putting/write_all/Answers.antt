@@ -5,7 +5,7 @@ use Rattle.erasure.specs.Formula.{record_from}
 use Rattle.rows.specs.Model.{Held}
 use Rattle.site.proofs.Rounds.{changed_none, changed_more}
 use Rattle.site.proofs.putting.write_all.Goals as goal
-use Rattle.site.proofs.putting.write_all.Goals.{then-in-reach, else-in-reach}
+use Rattle.site.proofs.putting.write_all.Goals.{then-in_reach, else-in_reach}
 
 pub loop-c-init : goal.loop-c-init
 loop-c-init g c =
@@ -30,10 +30,10 @@ loop-c-preserved g c =
     changed_more (model c.args.row.now) c.args.file (λ d. Held (record_from (coding f.ops f.width f.stored f.number c.args.plan.now.k) c.args.size c.args.slices.now d c.args.issue))
     (model c.loop-c.row) (model c.if-in_reach.row) c.loop-c.c c.in_reach.result c.loop-c.invariant c.in_reach.ensures
     (λ near. elim c.if-in_reach.branch [
-      | then-in-reach w ↦ ap model w.row-is ∙ w.write_at.ensures
-      | else-in-reach w ↦ absurd (true≢false (sym near ∙ w.if-in_reach.false))
+      | then-in_reach w ↦ ap model w.row-is ∙ w.write_at.ensures
+      | else-in_reach w ↦ absurd (true≢false (sym near ∙ w.if-in_reach.false))
     ])
     (λ away. elim c.if-in_reach.branch [
-      | then-in-reach w ↦ absurd (true≢false (sym w.if-in_reach.true ∙ away))
-      | else-in-reach w ↦ ap model w.row-is
+      | then-in_reach w ↦ absurd (true≢false (sym w.if-in_reach.true ∙ away))
+      | else-in_reach w ↦ ap model w.row-is
     ])
