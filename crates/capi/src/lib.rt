@@ -1,5 +1,5 @@
-// The library for C. Each exported function takes a slice as a pointer and a length, and answers a length, or the
-// number of a refusal negated. include/runnelpan.h declares them.
+// The calls of the library for C: each answers a length, or the number of a refusal negated. The static library `capi_c` exports
+// them, and include/runnelpan.h declares them.
 #![tactic(auto)]
 
 mod answers;

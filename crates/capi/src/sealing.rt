@@ -23,8 +23,7 @@ fn seal_with<C: Cipher>(key: &[u8], file: &[u8], out: &mut [u8]) -> i64
 // Seals a file under a key of sixteen bytes into the front of the output, and answers the package's length. The rest
 // of the output stays as it was, and all of it on a refusal: the cipher is unknown, the file is too long, the key has
 // not sixteen bytes, or the output is too short, in that order.
-#[unsafe(no_mangle)]
-pub extern "C" fn runnelpan_seal(cipher: u32, key: &[u8], file: &[u8], out: &mut [u8]) -> i64
+pub fn runnelpan_seal(cipher: u32, key: &[u8], file: &[u8], out: &mut [u8]) -> i64
     ensures answers { result ≡ seal_call cipher (length key.now) (length file.now) (length out.old) }
     ensures fills { out.new ≡ seal_leaves cipher key.now file.now out.old }
 {
@@ -46,8 +45,7 @@ fn unseal_with<C: Cipher>(package: &[u8], out: &mut [u8]) -> i64
 // Unseals a package into the front of the output, and answers the file's length. The rest of the output stays as it
 // was, and all of it on a refusal: the cipher is unknown, no package has that length, the canary is wrong, no file of
 // this cipher has the frame, or the output is too short, in that order.
-#[unsafe(no_mangle)]
-pub extern "C" fn runnelpan_unseal(cipher: u32, package: &[u8], out: &mut [u8]) -> i64
+pub fn runnelpan_unseal(cipher: u32, package: &[u8], out: &mut [u8]) -> i64
     ensures answers { result ≡ unseal_call cipher «package».now (length out.old) }
     ensures fills { out.new ≡ unseal_leaves cipher «package».now out.old }
     ensures exact { UnsealsExactly cipher «package».now out.old out.new }

@@ -22,8 +22,7 @@ fn in_one_number(answer: Result<usize, SliceFault>) -> i64
 // Cuts the record of a cabinet from a package, into the front of the output, and answers the record's length. The rest of the
 // output stays as it was, and all of it on a refusal: the field is unknown or k and n are no plan, no package has that length,
 // no such cabinet is fitted, the issue is 0, or the output is too short, in that order.
-#[unsafe(no_mangle)]
-pub extern "C" fn runnelpan_cut(
+pub fn runnelpan_cut(
     field: u32,
     k: u32,
     n: u32,
@@ -48,8 +47,7 @@ pub extern "C" fn runnelpan_cut(
 // output, and answers its length. The rest of the output stays as it was, and all of it on a refusal: the field is unknown or k
 // and n are no plan, no package has that length, there are not k differing positions of fitted cabinets and k records of the due
 // length and number and of one issue, the records are those of no package, or the output is too short, in that order.
-#[unsafe(no_mangle)]
-pub extern "C" fn runnelpan_join(
+pub fn runnelpan_join(
     field: u32,
     k: u32,
     n: u32,

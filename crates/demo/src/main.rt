@@ -1,7 +1,6 @@
 // Takes a bay map through the layers that stand, and prints each action.
 #![tactic(auto)]
 
-mod restoring;
 mod sealing;
 mod shelving;
 

@@ -14,7 +14,7 @@ pub fn row(rt: &HostRuntime, action: &str, what: &str, bytes: usize) -> anyhow::
 }
 
 // Unseals a package and says what came of it: the file again, another one, or a refusal.
-pub fn try_unseal<C: Cipher>(
+fn try_unseal<C: Cipher>(
     rt: &HostRuntime,
     what: &str,
     package: &[u8],

@@ -8,15 +8,12 @@ mod ciphers;
 mod hex;
 mod packages;
 mod report;
-mod slices;
 
 fn main(rt: HostRuntime) -> io::Result<()> {
     let mut report = Report::new(&rt);
     ciphers::print(&mut report)?;
     report.heading("")?;
     packages::print(&mut report)?;
-    report.heading("")?;
-    slices::print(&mut report)?;
     report.heading("")?;
     report.end()
 }

@@ -1,6 +1,6 @@
 // The bay map from the records that the cabinets still hold.
-use crate::sealing::{MOST, row, try_unseal};
 use crate::shelving::{BAY_MAP, ROOM, write_record};
+use crate::unsealing::{MOST, row, try_unseal};
 use erasure::Plan;
 use recovery::{join, rebuild};
 use rows::row::{ReadRow, Row};

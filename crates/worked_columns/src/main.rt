@@ -1,10 +1,13 @@
 // The worked columns of docs/FORMATS.md: what a cabinet stores for each, by a cut of a package that begins with it.
-use crate::hex::Hex;
-use crate::report::Report;
+#![tactic(auto)]
+
+mod hex;
+
 use algebra::Field;
 use erasure::{Plan, cut};
 use gf256::Gf256;
 use gf65537::Gf65537;
+use hex::Hex;
 use std::io;
 
 // A column, its bytes in a package, and what a cabinet stores for it.
@@ -68,8 +71,8 @@ fn cut_record<F: Field>(worked: &Worked, record: &mut [u8]) -> bool {
     }
 }
 
-// Prints the first symbol of the cabinet's record, as it is stored.
-fn stored<F: Field>(report: &mut Report<'_>, name: &str, worked: &Worked) -> io::Result<()> {
+// Prints the first symbol of the cabinet's record, as it is stored, and whether it is what it ought to be.
+fn stored<F: Field>(rt: &HostRuntime, name: &str, worked: &Worked) -> io::Result<()> {
     let mut record = [0u8; 48];
     let right = cut_record::<F>(worked, &mut record);
     let symbol = &record[6..6 + F::stored_width().min(3)];
@@ -77,22 +80,23 @@ fn stored<F: Field>(report: &mut Report<'_>, name: &str, worked: &Worked) -> io:
     let column = worked.column;
     let cabinet = worked.cabinet;
     let shown = Hex(symbol);
-    report.claim(
-        right && symbol == worked.stored,
-        format_args!("  {name:9}  {k}  {column:7}  {cabinet:7}  {shown}"),
-    )
+    let verdict = if right && symbol == worked.stored {
+        "ok"
+    } else {
+        "WRONG"
+    };
+    println!(rt; "  {name:9}  {k}  {column:7}  {cabinet:7}  {shown}  {verdict}")
 }
 
-fn all_stored<F: Field>(report: &mut Report<'_>, name: &str, columns: &[Worked]) -> io::Result<()> {
+fn all_stored<F: Field>(rt: &HostRuntime, name: &str, columns: &[Worked]) -> io::Result<()> {
     for worked in columns {
-        stored::<F>(report, name, worked)?;
+        stored::<F>(rt, name, worked)?;
     }
     Ok(())
 }
 
-// Prints what cabinets store for the worked columns.
-pub fn print(report: &mut Report<'_>) -> io::Result<()> {
-    report.heading("field        k  column   cabinet  stored")?;
-    all_stored::<Gf256>(report, "GF(256)", &IN_GF256)?;
-    all_stored::<Gf65537>(report, "GF(65537)", &IN_GF65537)
+fn main(rt: HostRuntime) -> io::Result<()> {
+    println!(rt; "field        k  column   cabinet  stored")?;
+    all_stored::<Gf256>(&rt, "GF(256)", &IN_GF256)?;
+    all_stored::<Gf65537>(&rt, "GF(65537)", &IN_GF65537)
 }
