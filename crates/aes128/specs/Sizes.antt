@@ -4,7 +4,7 @@ use Rattle.std.proofs.Common.{arith, ltb→lt}
 use Rattle.std.proofs.lemmas.Nat.{xor_lt}
 use Rattle.std.proofs.lemmas.Bool.{cond_both, ltb-true}
 use Rattle.base.specs.Bytes.{Bytes}
-use Rattle.cipher.specs.Blocks.{Block}
+use Rattle.cipher.specs.Blocks.{Block, CipherLaws}
 use Rattle.cipher.proofs.Xor.{sixteen_block, xor_block}
 use Rattle.aes128.specs.Aes.{at, table, sbox, xtime, thrice, sub_bytes, shift_rows, key_byte, next_key, rcon, round_key, rounds, aes}
 
@@ -74,3 +74,6 @@ round_key_block key h (suc r) =
 
 pub aes_block : (key block : List ℕ) → Block key → Block (aes key block)
 aes_block key block h = xor_block _ _ (shift_block (sub_bytes (rounds key block 9)) (sub_block (rounds key block 9)).1).1 (round_key_block key h 10).1
+
+pub aes_laws : CipherLaws 11 aes
+aes_laws = record { small = omega arith; blocks = λ key block h _. aes_block key block h }

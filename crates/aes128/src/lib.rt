@@ -4,8 +4,7 @@
 ghost use Rattle.std.specs.Prelude.{◌≡◌, min};
 ghost use Rattle.aes128.specs.Aes.{xtime, next_key, round_key, aes};
 ghost use Rattle.aes128.specs.Columns.{state_of, RoundKeys};
-ghost use Rattle.std.proofs.Common.{arith};
-ghost use Rattle.aes128.specs.Sizes.{aes_block};
+ghost use Rattle.aes128.specs.Sizes.{aes_laws};
 
 use cipher::Cipher;
 use columns::Columns;
@@ -88,7 +87,7 @@ impl Cipher for Aes128 {
 
     ghost key = { λ a. a.key };
 
-    ghost lawful = { record { small = omega arith; blocks = λ key block h _. aes_block key block h } };
+    ghost lawful = { aes_laws };
 
     fn cipher_number() -> u16 {
         Self::NUMBER

@@ -23,7 +23,7 @@ mod opening;
 const LONGEST_FILE: usize = 4092;
 
 // The length of the package of a file of so many bytes.
-pub fn package_size(size: u16) -> usize
+pub fn length_of_package(size: u16) -> usize
     ensures { result ≡ package_length size }
 {
     16 * ((usize::from(size) + 19) / 16) + 32
@@ -95,7 +95,7 @@ fn package_length(file: usize) -> usize
     requires { file ≤ 4092 }
     ensures { result ≡ package_length file }
 {
-    package_size(file as u16)
+    length_of_package(file as u16)
 }
 
 // Writes a package into the front of an output that is long enough.

@@ -37,7 +37,7 @@ module _ (S : SiteModel) (sound : Sound S.row) (most : fitted S ≤ 16) (f : ℕ
   )
 
   pub length-records : length (records S f) ≡ needed S * whole S f
-  length-records = flat_map.length-records S.row sound f (whole S f) (positions S f) (positions_hold S f) ∙ ap (λ n. n * whole S f) length-positions
+  length-records = joined.length-records S.row sound f (whole S f) (positions S f) (positions_hold S f) ∙ ap (λ n. n * whole S f) length-positions
 
   -- a record that is held has a byte, so a package has the file's length
   pub package-fits : 1 ≤ needed S → misfit (package_bytes S f) ≡ false

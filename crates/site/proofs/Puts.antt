@@ -18,7 +18,7 @@ use Rattle.aont.proofs.Sealed.{length-sealed}
 use Rattle.erasure.specs.declared.fault.SliceCause.TheVariants.{NoCabinet, PackageMisfit, IssueZero, OutputShort}
 use Rattle.erasure.specs.declared.fault.SliceFault.{SliceFault}
 use Rattle.erasure.specs.Records.{Coding, columns, head, record_length}
-use Rattle.erasure.specs.Formula.{combined_record, record_from, record_of, spread, point_weights}
+use Rattle.erasure.specs.Formula.{record_from, record_of, spread, weights_for}
 use Rattle.erasure.specs.Slices.{cut_answer, fault_of, spread_answer}
 use Rattle.erasure.proofs.Reading.{slices_fit}
 use Rattle.erasure.proofs.RecordOf.{record_is}
@@ -39,11 +39,11 @@ module _ (C : Coding) (bytes : ℕ) (slices : List ℕ) (c issue : ℕ) where
   own = record_from C bytes slices c issue
 
   length_cut : length own ≡ record_length C bytes
-  unfolding combined_record
+  unfolding record_from
   length_cut =
-      let body = combined C.ops C.stored (point_weights C (λ i. i) c) slices (columns C bytes * C.stored) (columns C bytes) in
+      let body = combined C.ops C.stored (weights_for C c) slices (columns C bytes * C.stored) (columns C bytes) in
       length-append (head (record_length C bytes) C.number issue) body ∙ ap (λ n. n + length body) (head_six (record_length C bytes) C.number issue)
-      ∙ ap (λ n. 6 + n) (length-combined C.ops C.stored (point_weights C (λ i. i) c) slices (columns C bytes * C.stored) (columns C bytes))
+      ∙ ap (λ n. 6 + n) (length-combined C.ops C.stored (weights_for C c) slices (columns C bytes * C.stored) (columns C bytes))
 
   cut_whole : (n out x : ℕ) → cut_answer C n bytes c issue out ≡ Ok x → record_length C bytes ≡ x
   cut_whole n out x e =

@@ -8,7 +8,7 @@ use crate::fault::SiteCause;
 use crate::files::Kept;
 use crate::site::Site;
 use algebra::Field;
-use aont::package_length;
+use aont::length_of_package;
 use cipher::Cipher;
 use erasure::{Head, record_length};
 use rows::row::Row;
@@ -31,7 +31,7 @@ impl<R: Row, C: Cipher, F: Field> Site<R, C, F> {
     pub(crate) fn due(&self, kept: Kept) -> Head
         ensures { result ≡ due_for (fitting_of F.Field C.Cipher self.now.plan) kept }
     {
-        let whole = match record_length::<F>(&self.plan, package_length(kept.size)) {
+        let whole = match record_length::<F>(&self.plan, length_of_package(kept.size)) {
             Some(n) => n as u16,
             None => 0,
         };

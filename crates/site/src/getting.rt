@@ -17,7 +17,7 @@ use crate::fault::{SiteCause, SiteFault};
 use crate::files::Kept;
 use crate::site::{Site, told};
 use algebra::Field;
-use aont::{SealFault, package_length, unseal};
+use aont::{SealFault, length_of_package, unseal};
 use cipher::Cipher;
 use erasure::{Plan, SliceFault};
 use memory::{Work, is_short, wipe_all};
@@ -84,7 +84,7 @@ impl<R: Row, C: Cipher, F: Field> Site<R, C, F> {
         let positions = self.collect(file, last, records)?;
         let k = self.plan.needed();
         let whole = usize::from(self.due(last).whole);
-        let bytes = package_length(last.size);
+        let bytes = length_of_package(last.size);
         open::<C, F>(
             &self.plan,
             &positions[0..k],

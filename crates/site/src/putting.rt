@@ -18,7 +18,7 @@ use crate::fault::{SiteCause, SiteFault};
 use crate::files::Kept;
 use crate::site::{Site, told};
 use algebra::Field;
-use aont::{SealFault, package_length, seal, sealed_length};
+use aont::{SealFault, length_of_package, seal, sealed_length};
 use cipher::Cipher;
 use erasure::{Plan, cut_spread, record_length, spread};
 use memory::{Work, is_short, wipe_all};
@@ -107,7 +107,7 @@ fn seal_and_spread<C: Cipher, F: Field>(
     requires spreading { 6400 ≤ length slices.old }
     ensures { (c issue : _) → record_from (coding F.Field.ops F.Field.width F.Field.stored F.Field.number plan.now.k) (package_length (length bytes.now)) slices.new c issue ≡ record_of (coding F.Field.ops F.Field.width F.Field.stored F.Field.number plan.now.k) (sealed C.Cipher.encrypted C.Cipher.number key.now bytes.now) c issue }
 {
-    let size = package_length(bytes.len() as u16);
+    let size = length_of_package(bytes.len() as u16);
     seal_file::<C>(key, bytes, package);
     let _ = spread::<F>(plan, &package[0..size], slices);
 }
@@ -190,7 +190,7 @@ impl<R: Row, C: Cipher, F: Field> Site<R, C, F> {
             &mut self.row,
             file,
             &plan,
-            package_length(size),
+            length_of_package(size),
             slices,
             issue,
             out,

@@ -13,7 +13,7 @@ use crate::orders::{Order, Refilled};
 use crate::repairing::{lacks, rewrite};
 use crate::site::Site;
 use algebra::Field;
-use aont::package_length;
+use aont::length_of_package;
 use cipher::Cipher;
 use erasure::Head;
 use memory::{Wipe, Work, is_short};
@@ -66,7 +66,7 @@ impl<R: Row, C: Cipher, F: Field> Site<R, C, F> {
         rewrite::<R, F>(
             &mut self.row,
             &plan,
-            package_length(last.size),
+            length_of_package(last.size),
             &positions[0..k],
             &records[0..k * whole],
             cabinet,

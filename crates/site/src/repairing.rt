@@ -17,7 +17,7 @@ ghost use Rattle.site.specs.Whole.{model_of};
 use crate::fault::{SiteCause, SiteFault};
 use crate::site::{Site, told};
 use algebra::Field;
-use aont::package_length;
+use aont::length_of_package;
 use cipher::Cipher;
 use erasure::{Head, Plan};
 use memory::{Wipe, Work, is_short};
@@ -117,7 +117,7 @@ impl<R: Row, C: Cipher, F: Field> Site<R, C, F> {
         rewrite_lacking::<R, F>(
             &mut self.row,
             &plan,
-            package_length(last.size),
+            length_of_package(last.size),
             &positions[0..k],
             &records[0..k * usize::from(due.whole)],
             file,

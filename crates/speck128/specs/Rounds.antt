@@ -5,7 +5,7 @@ use Rattle.std.proofs.lemmas.List.Edits.{fill_by_more}
 use Rattle.std.proofs.lemmas.List.{length-set}
 use Rattle.base.specs.Bytes.{Bytes, le_bytes}
 use Rattle.base.proofs.Little.{Bytes-le_bytes}
-use Rattle.cipher.specs.Blocks.{Block}
+use Rattle.cipher.specs.Blocks.{Block, CipherLaws}
 use Rattle.speck128.specs.Speck.{Words, ror, rol, rounds, start, joined, speck}
 
 -- a round's answer on two words p and q with the round key k
@@ -54,3 +54,6 @@ Bytes-append (x ∷ a) b ha hb (suc i) = Bytes-append a b (λ j. ha (suc j)) hb 
 pub speck_block : (key block : List ℕ) → Block (speck key block)
 unfolding joined
 speck_block key block = (refl, Bytes-append (le_bytes 8 _) (le_bytes 8 _) (Bytes-le_bytes 8 _) (Bytes-le_bytes 8 _))
+
+pub speck_laws : CipherLaws 12 speck
+speck_laws = record { small = omega arith; blocks = λ key block _ _. speck_block key block }

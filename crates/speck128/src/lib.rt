@@ -5,8 +5,7 @@ ghost use Rattle.std.specs.Prelude.{◌≡◌, ◌+◌, ◌%◌, ◌^◌, ◌≤
 ghost use Rattle.base.specs.Bytes.{le_value, part};
 ghost use Rattle.speck128.specs.Schedule.{RoundKeys};
 ghost use Rattle.speck128.specs.Speck.{ror, rol, rounds, start, joined, speck};
-ghost use Rattle.std.proofs.Common.{arith};
-ghost use Rattle.speck128.specs.Rounds.{speck_block};
+ghost use Rattle.speck128.specs.Rounds.{speck_laws};
 
 use cipher::Cipher;
 
@@ -113,7 +112,7 @@ impl Cipher for Speck128 {
 
     ghost key = { λ s. s.key };
 
-    ghost lawful = { record { small = omega arith; blocks = λ key block _ _. speck_block key block } };
+    ghost lawful = { speck_laws };
 
     fn cipher_number() -> u16 {
         Self::NUMBER

@@ -28,11 +28,11 @@ returns-in_err-rewrite g c =
     let a = c.args in
     let l = c.loop-c in
     let model = g.R.ReadRow.model in
-    let e = err_from_is_err_and c.from-residual.result c.from-residual.ensures.1 in
+    let e = err_from_is_err_and c.from_residual.result c.from_residual.ensures.1 in
     let p = round-refused (coding f.ops f.width f.stored f.number a.plan.now.k) a.plan.now.n a.bytes a.positions.now a.records.now a.due a.file (model a.row.now)
     l.c l.count (model l.row) l.invariant c.lacks.result c.lacks.ensures (g.R.ReadRow.sound l.row) l.spread (omega (arith, l.auto.spread, c.requires.room)) c.from-whole.result
     c.from-whole.ensures c.if-lacks.true (model c.rewrite.new.row) c.rewrite.result c.rewrite.ensures.answers c.rewrite.ensures.becomes c.in_err-rewrite.field-0.0
-    c.from-residual.result (omega (arith, c.loop-c-test.true, c.fitted-c-end.ensures)) c.in_err-rewrite.was (e.1 ∙ ap Err e.2) in
+    c.from_residual.result (omega (arith, c.loop-c-test.true, c.fitted-c-end.ensures)) c.in_err-rewrite.was (e.1 ∙ ap Err e.2) in
     record { answers = p.answers; becomes = p.becomes }
 
 pub loop-c-preserved : goal.loop-c-preserved

@@ -46,7 +46,7 @@ returns g c =
     let k = c.needed-k.result in
     let w = c.from-whole.result in
     let out = c.collect.new.out in
-    let bytes = c.package_length.ensures ∙ ap (λ q. package_length q.size) (is_kept S f last here) in
+    let bytes = c.length_of_package.ensures ∙ ap (λ q. package_length q.size) (is_kept S f last here) in
     let due = c.due-due.ensures ∙ ap (due_for S.fit) (is_kept S f last here) in
     let can = sym c.takes.ensures ∙ c.if-not-takes.false in
     let few : k - 0 ≡ needed S = omega (arith, c.needed-k.ensures) in
@@ -57,8 +57,8 @@ returns g c =
     collected S f sound (omega (arith, c.args.self.now.plan.fits)) more c.args.records.now out got.records got.long (k * w - 0) size in
     record {
       answers = refill_told S c.args.cabinet f c.args.short last here c.due-due.result due can sound c.args.records.now c.args.spread.now c.requires.long w c.from-whole.ensures more
-          c.package_length.result (take (k - 0) c.in-Ok-collect.positions) (take (k * w - 0) out) bytes ps rs c.rewrite.result c.is_ok.result c.is_ok.ensures.value c.rewrite.ensures.answers;
+          c.length_of_package.result (take (k - 0) c.in-Ok-collect.positions) (take (k * w - 0) out) bytes ps rs c.rewrite.result c.is_ok.result c.is_ok.ensures.value c.rewrite.ensures.answers;
       becomes = refill_left S c.args.cabinet f c.args.short last here c.due-due.result due can sound c.args.records.now c.args.spread.now c.requires.long w c.from-whole.ensures more
-          c.package_length.result (take (k - 0) c.in-Ok-collect.positions) (take (k * w - 0) out) bytes ps rs c.rewrite.result c.is_ok.result c.is_ok.ensures.value
+          c.length_of_package.result (take (k - 0) c.in-Ok-collect.positions) (take (k * w - 0) out) bytes ps rs c.rewrite.result c.is_ok.result c.is_ok.ensures.value
           (g.R.ReadRow.model c.rewrite.new.row) c.rewrite.ensures.becomes;
     }

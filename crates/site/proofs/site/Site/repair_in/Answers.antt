@@ -32,7 +32,7 @@ returns g c =
     let got = c.in_ok-positions.ensures in
     let k = c.needed-k.result in
     let out = c.collect.new.out in
-    let bytes = c.package_length.ensures ∙ ap (λ q. package_length q.size) (is_kept S f last here) in
+    let bytes = c.length_of_package.ensures ∙ ap (λ q. package_length q.size) (is_kept S f last here) in
     let due = c.due-due.ensures ∙ ap (due_for S.fit) (is_kept S f last here) in
     let few : k - 0 ≡ needed S = omega (arith, c.needed-k.ensures) in
     let ps : take (k - 0) c.in_ok-positions.positions ≡ positions S f = ap (λ q. take q c.in_ok-positions.positions) few ∙ got.positions in
@@ -41,8 +41,8 @@ returns g c =
     let rs : take (k * c.from.result - 0) out ≡ records S f =
     collected S f (g.R.ReadRow.sound c.args.self.now.row) (omega (arith, c.args.self.now.plan.fits)) more c.args.records.now out got.records got.long (k * c.from.result - 0) size in
     record {
-      answers = repair_told S f last here more c.args.short c.if-short.false c.package_length.result (take (k - 0) c.in_ok-positions.positions) (take (k * c.from.result - 0) out)
+      answers = repair_told S f last here more c.args.short c.if-short.false c.length_of_package.result (take (k - 0) c.in_ok-positions.positions) (take (k * c.from.result - 0) out)
           c.due-due.result bytes ps rs due c.rewrite_lacking.result (g.R.ReadRow.model c.rewrite_lacking.new.row) c.rewrite_lacking.ensures.answers;
-      becomes = repair_left S f last here more c.args.short c.if-short.false c.package_length.result (take (k - 0) c.in_ok-positions.positions) (take (k * c.from.result - 0) out)
+      becomes = repair_left S f last here more c.args.short c.if-short.false c.length_of_package.result (take (k - 0) c.in_ok-positions.positions) (take (k * c.from.result - 0) out)
           c.due-due.result bytes ps rs due c.rewrite_lacking.result (g.R.ReadRow.model c.rewrite_lacking.new.row) c.rewrite_lacking.ensures.becomes;
     }

@@ -14,8 +14,8 @@ returns g c =
     let issue = c.args.issue in
     let laid = c.seal_and_spread.new.slices in
     let pkg = sealed g.C.Cipher.encrypted g.C.Cipher.number c.args.key.now file in
-    let each : (d : ℕ) → record_from (code S) c.package_length.result laid d issue ≡ record_of (code S) pkg d issue =
-    λ d. ap (λ n. record_from (code S) n laid d issue) c.package_length.ensures ∙ c.seal_and_spread.ensures d issue in
+    let each : (d : ℕ) → record_from (code S) c.length_of_package.result laid d issue ≡ record_of (code S) pkg d issue =
+    λ d. ap (λ n. record_from (code S) n laid d issue) c.length_of_package.ensures ∙ c.seal_and_spread.ensures d issue in
     ap (λ m. with_files S (set S.files c.args.file (record { last = issue; current = true; size = length file })) m)
     (c.write_all.ensures
-    ∙ same_records S.row (near S) c.args.file (λ d. record_from (code S) c.package_length.result laid d issue) (λ d. record_of (code S) pkg d issue) each)
+    ∙ same_records S.row (near S) c.args.file (λ d. record_from (code S) c.length_of_package.result laid d issue) (λ d. record_of (code S) pkg d issue) each)
