@@ -1,5 +1,5 @@
 -- Words of four bytes, and rounds on them. Assumes nothing.
-use Rattle.std.proofs.Common.{◌≡◌, ℕ, zero, suc, ◌+◌, ◌/◌, ◌%◌, ◌<◌, List, [], ◌∷◌, ◌++◌, get_or, sym, refl, ap, ◌∙◌, arith}
+use Rattle.std.proofs.Common.{◌≡◌, ℕ, zero, suc, ◌/◌, ◌%◌, ◌<◌, List, [], ◌∷◌, ◌++◌, get_or, sym, refl, ap, ◌∙◌, arith}
 use native.Mathlib.Nat.{div-div-eq-div-mul}
 use lib.Bits.{bit_xor, xor_lt, xor_mod, xor_shr, xor_zero_r}
 use Rattle.base.specs.Bytes.{Bytes, le_bytes, le_value}

@@ -1,7 +1,6 @@
 -- The laws of the product, from tests at powers of two. Assumes nothing.
 use mathlib.Core.Path.{◌≡◌, sym, ap, subst, ◌∙◌}
 use Prim.Native.Nat.{ℕ, ◌^◌, ◌<◌}
-use native.Mathlib.Omega.{arith}
 use lib.Bits.{bit_xor, xor_lt}
 use lib.Pow.{pow_pos}
 use Rattle.binary.specs.Binary.{product}

@@ -2,16 +2,16 @@
 use Rattle.std.proofs.Common.{◌≡◌, ℕ, ◌+◌, ◌-◌, ◌*◌, ◌/◌, ◌<◌, ◌≤◌, List, ◌++◌, map, length, take, drop, sym, refl, ap, ◌∙◌, zero-add, div-mul-le_self, mul-div_cancel, arith}
 use native.Mathlib.Nat.{sub-zero}
 use Rattle.std.specs.List.{range_with_len}
-use Rattle.std.proofs.lemmas.List.FromFn.{fill_by_all, get_or-range_with_len, get_or-map-range_with_len, length-map-range_with_len, take-map-range_with_len}
-use Rattle.std.proofs.lemmas.List.{get_or-map, length-map, take_all, take_at, drop_at, drop_all, append-nil, length-append, length-drop, length-take}
+use Rattle.std.proofs.lemmas.List.FromFn.{fill_by_all, get_or-map-range_with_len, length-map-range_with_len, take-map-range_with_len}
+use Rattle.std.proofs.lemmas.List.{get_or-map, length-map, take_all, take_at, drop_at, length-append, length-drop, length-take}
 use borrow.Rule.Slice.PartMut.{put_mid, post_of}
 use Rattle.base.specs.Bytes.{over}
 use Rattle.base.proofs.Placed.{same_map}
-use Rattle.base.proofs.Pieces.{over_whole, put_part, length-stored}
+use Rattle.base.proofs.Pieces.{over_whole}
 use Rattle.algebra.specs.Fields.{Ops, Laws}
 use Rattle.algebra.specs.Polynomials.{at}
 use Rattle.algebra.specs.Lagrange.{weight}
-use Rattle.algebra.specs.Slices.{combined_at, combined}
+use Rattle.algebra.specs.Slices.{combined}
 use Rattle.algebra.proofs.ThroughPoints.{weight_same}
 use Rattle.erasure.specs.Records.{Coding, columns, head, record_length}
 use Rattle.erasure.specs.Formula.{weights_for, record_from, point_weights, combined_record}

@@ -4,7 +4,6 @@ use Rattle.std.proofs.lemmas.Bool.{cases_lt, and_from, eq-eqb, ne_eqb, lt-ltb, l
 use Rattle.base.specs.Bytes.{le_bytes, le_value, part}
 use Rattle.base.proofs.Every.{every_so}
 use Rattle.base.proofs.Lengths.{fits}
-use Rattle.base.proofs.Refusing.{passes}
 use Rattle.base.proofs.Pieces.{pieces_same, relaid}
 use Rattle.algebra.specs.Fields.{Laws, Widths}
 use Rattle.algebra.specs.Polynomials.{at, eval, Through}

@@ -1,5 +1,5 @@
 -- What a read into a large buffer tells is what a table shows. Assumes nothing.
-use Rattle.std.proofs.Common.{◌≡◌, ℕ, ◌≤◌, true, false, cond, ◌&&◌, ltb, ◌⊎◌, length, sym, refl, ap, ◌∙◌, inl, inr, ⊎_elim, arith}
+use Rattle.std.proofs.Common.{◌≡◌, ℕ, ◌≤◌, true, false, cond, ◌&&◌, ltb, length, sym, refl, ap, ◌∙◌, inl, inr, ⊎_elim}
 use Rattle.std.proofs.lemmas.Bool.{cases_Bool, cases_lt, lt-ltb, le-ltb, and_left, and_right}
 use Rattle.rows.specs.declared.table.Cell.TheVariants as cell
 use Rattle.rows.specs.Model.{RowModel, Slot, Empty, Condemned, Held, Sound}

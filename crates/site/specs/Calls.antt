@@ -1,5 +1,5 @@
 -- What each call of a site answers, with its refusals in the order of their checks, and what it leaves. Assumes nothing.
-use Rattle.std.specs.Prelude.{ℕ, Bool, true, false, cond, not, ◌&&◌, List, [], ◌∷◌, length, set, Some, None, Ok, Err, Option, Result, ◌==◌, nat_le, nat_lt}
+use Rattle.std.specs.Prelude.{ℕ, Bool, true, false, not, ◌&&◌, List, [], ◌∷◌, length, set, Ok, Result, ◌==◌, nat_le, nat_lt}
 use Rattle.base.specs.Answers.{refuse, pass}
 use Rattle.aont.specs.declared.fault.SealFault.TheVariants.{NoSuchFile}
 use Rattle.aont.specs.Package.{package_length, sealed}
@@ -9,14 +9,12 @@ use Rattle.erasure.specs.Formula.{record_of}
 use Rattle.recovery.specs.Formula.{package_from, rebuilt}
 use Rattle.recovery.specs.Answers.{join_answer, rebuild_answer}
 use Rattle.rows.specs.Calls.{cabinet_answer, slot_answer}
-use Rattle.rows.specs.Model.{RowModel, Slot, Empty, Condemned, Held, with_slot, with_reach, with_new}
-use Rattle.standing.specs.declared.sets.Absent.{Absent}
+use Rattle.rows.specs.Model.{Slot, Empty, Held, with_slot, with_reach, with_new}
 use Rattle.standing.specs.declared.sets.Survey.{Survey}
-use Rattle.standing.specs.Sets.{set_of, count_of, members, absent_of, survey_of, away_of}
+use Rattle.standing.specs.Sets.{count_of, members, absent_of, survey_of, away_of}
 use Rattle.site.specs.declared.fault.SiteCause.{SiteCause}
-use Rattle.site.specs.declared.fault.SiteCause.TheVariants.{Row, Slice, Seal, TooFew, NoCabinet, RoomShort, NoFile, IssueOld, NotCurrent, MemoryShort, OutputShort, MarkClosed}
-use Rattle.site.specs.declared.files.Kept.{Kept}
-use Rattle.site.specs.Model.{SiteModel, with_files, with_marks, with_row, fitted, code, needed, kept, package_bytes, whole, due, standing, too_few, positions, records, lacking, with_slots}
+use Rattle.site.specs.declared.fault.SiteCause.TheVariants.{Row, Slice, Seal, TooFew, NoCabinet, RoomShort, NoFile, IssueOld, NotCurrent, MemoryShort, OutputShort}
+use Rattle.site.specs.Model.{SiteModel, with_files, with_marks, with_row, fitted, code, needed, kept, package_bytes, whole, due, too_few, positions, records, lacking, with_slots}
 
 -- a call that names a current file, and then what comes next
 abbrev pub of_current : {T : Type 0} → SiteModel → ℕ → Result T SiteCause → Result T SiteCause

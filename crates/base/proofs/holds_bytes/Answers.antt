@@ -1,4 +1,4 @@
-use Rattle.std.proofs.Common.{◌<◌, arith, lit<}
+use Rattle.std.proofs.Common.{arith, lit<}
 use Rattle.std.proofs.lemmas.List.{get_or_past}
 use Rattle.base.proofs.holds_bytes.Goals as goal
 

@@ -1,4 +1,4 @@
-use Rattle.std.proofs.Common.{◌≡◌, ◌-◌, ◌%◌, ◌<◌, ◌≤◌, sym, ap, ◌∙◌, subst, mod-lt, mod-eq_of_lt, mul-one, arith}
+use Rattle.std.proofs.Common.{◌≡◌, ◌%◌, ◌<◌, ◌≤◌, sym, ap, ◌∙◌, subst, mod-lt, mod-eq_of_lt, mul-one, arith}
 use Rattle.algebra.specs.Fields.{inverse}
 use Rattle.gf65537.specs.Gf65537.{times}
 use Rattle.gf65537.specs.Prime.{p-pos, prime, step}

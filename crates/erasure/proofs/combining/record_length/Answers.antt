@@ -1,7 +1,7 @@
 use Rattle.std.proofs.Common.{◌≡◌, ◌+◌, ◌-◌, ◌*◌, ◌≤◌, false, sym, ap, ◌∙◌, subst, arith}
 use Rattle.base.specs.Sizes.{misfit}
 use Rattle.base.proofs.Lengths.{fits}
-use Rattle.erasure.specs.Records.{coding, columns, record_length}
+use Rattle.erasure.specs.Records.{coding, columns}
 use Rattle.erasure.proofs.Reading.{slices_fit}
 use Rattle.erasure.proofs.combining.record_length.Goals as goal
 

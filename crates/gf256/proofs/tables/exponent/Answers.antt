@@ -1,4 +1,3 @@
-use Rattle.std.proofs.Common.{arith}
 use Rattle.gf256.proofs.Entries.{exponents}
 use Rattle.gf256.proofs.Rules.{exponents_at}
 use Rattle.gf256.proofs.tables.exponent.Goals as goal

@@ -1,6 +1,5 @@
 use Rattle.std.proofs.Common.{◌≡◌, ◌+◌, ◌*◌, ◌≤◌, min, length, ap, ◌∙◌, add-one, arith}
 use Rattle.base.specs.Bytes.{le_value, part}
-use Rattle.algebra.specs.Polynomials.{at}
 use Rattle.algebra.specs.Slices.{stored_at, combined_at}
 use Rattle.algebra.proofs.Stored.{read_stored}
 use Rattle.algebra.proofs.field.Field.combine_at.Goals as goal
