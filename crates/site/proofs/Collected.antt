@@ -1,6 +1,6 @@
 -- The records that a file is restored from: how many, and how long. Assumes nothing.
 use Rattle.std.proofs.Common.{◌≡◌, ℕ, ◌*◌, ◌≤◌, min, true, false, List, length, get_or, take, Ok, sym, ap, ◌∙◌, subst, inl, inr, mul-zero, arith}
-use Rattle.std.specs.List.{flat_map, AllByRecursion as All}
+use Rattle.std.specs.List.{flat_map, AllByRecursion}
 use Rattle.std.proofs.ByRecursion.{All-get_or, All-weaker}
 use Rattle.std.proofs.lemmas.Bool.{cases_Bool, cond_both, le-ltb, ltb-false}
 use Rattle.base.specs.Bytes.{over}
@@ -23,7 +23,7 @@ use Rattle.site.specs.Model.{SiteModel, code, due, due_for, fitted, kept, needed
 use Rattle.site.specs.Steps.{enough}
 
 -- each of the cabinets holds a record of the due length
-pub positions_hold : (S : SiteModel) (f : ℕ) → All (Holds S.row f (whole S f)) (positions S f)
+pub positions_hold : (S : SiteModel) (f : ℕ) → AllByRecursion (Holds S.row f (whole S f)) (positions S f)
 positions_hold S f =
     All-weaker (λ c. standing S f c ≡ true) (Holds S.row f (whole S f)) (λ c h. stands-holds (due S f) S.row f c h) (positions S f)
     (lowest-passes (standing S f) (needed S) (fitted S))
@@ -84,12 +84,12 @@ module _ (S : SiteModel) (most : fitted S ≤ 16) (f k n found : ℕ) (state : K
 
   -- and what it then gathers
   pub collected : (ps was now : List ℕ) (stride : ℕ) → ps ≡ take k places → stride ≡ head.whole → needed S * whole S f ≤ 6400 → 6400 ≤ length was →
-      (All (Holds S.row f stride) ps → length ps * stride ≤ length was → now ≡ over (flat_map (λ c. held (S.row.slot c f)) ps) was) →
+      (AllByRecursion (Holds S.row f stride) ps → length ps * stride ≤ length was → now ≡ over (flat_map (λ c. held (S.row.slot c f)) ps) was) →
       (Ok 0 ≡ enough S f) × (take (needed S) places ≡ positions S f) × (now ≡ over (records S f) was)
   collected ps was now stride eps es bound room read =
       let here : ps ≡ positions S f = eps ∙ ap (λ m. take m places) ek ∙ places_are in
       let wide : stride ≡ whole S f = es ∙ ap (λ h. h.whole) head_is in
-      let hold : All (Holds S.row f stride) ps = subst (λ m. All (Holds S.row f m) ps) (sym wide) (subst (All (Holds S.row f (whole S f))) (sym here) (positions_hold S f)) in
+      let hold : AllByRecursion (Holds S.row f stride) ps = subst (λ m. AllByRecursion (Holds S.row f m) ps) (sym wide) (subst (AllByRecursion (Holds S.row f (whole S f))) (sym here) (positions_hold S f)) in
       let count : length (positions S f) ≡ needed S = omega (arith, ap length found_are, ef, found_count, ek, le) in
       let fit : length ps * stride ≤ length was =
       omega (arith, bound, room, ap (λ m. length ps * m) wide, ap (λ xs. length xs * whole S f) here, ap (λ m. m * whole S f) count) in

@@ -1,6 +1,6 @@
 -- What was sealed and cut is got, from any k cabinets that have kept its records: for the layers above. Assumes nothing.
 use Rattle.std.proofs.Common.{◌≡◌, ℕ, zero, suc, ◌+◌, ◌*◌, ◌<◌, ◌≤◌, true, false, not, ◌&&◌, eqb, ltb, leb, List, [], ◌∷◌, ◌++◌, length, get_or, take, drop, replicate, Ok, sym, refl, ap, ◌∙◌, subst, add-mul, one-mul, add-one, arith}
-use Rattle.std.specs.List.{flat_map, AllByRecursion as All}
+use Rattle.std.specs.List.{flat_map, AllByRecursion}
 use Rattle.std.proofs.ByRecursion.{All-get_or, All-weaker}
 use Rattle.std.proofs.lemmas.List.{drop_at, drop-drop, length-replicate, take_at}
 use Rattle.std.proofs.lemmas.Bool.{and_from, eq-eqb, le-ltb, lt-leb, lt-ltb, ne_eqb, not_from_false, not_from_true}
@@ -34,7 +34,7 @@ use Rattle.site.specs.Steps.{sized_answer}
 use Rattle.site.proofs.Collected.{length-positions, length-records, package-fits, positions_hold}
 
 -- piece i of some of one width, end to end
-part_joined : (g : ℕ → List ℕ) (w : ℕ) (xs : List ℕ) → All (λ x. length (g x) ≡ w) xs → (i : ℕ) → i < length xs → part (flat_map g xs) (i * w) w ≡ g (get_or xs i 0)
+part_joined : (g : ℕ → List ℕ) (w : ℕ) (xs : List ℕ) → AllByRecursion (λ x. length (g x) ≡ w) xs → (i : ℕ) → i < length xs → part (flat_map g xs) (i * w) w ≡ g (get_or xs i 0)
 part_joined g w [] h i l = absurd (omega arith)
 part_joined g w (x ∷ xs) h zero l =
     let none : 0 * w ≡ 0 = omega arith in
@@ -48,7 +48,7 @@ module _ (S : SiteModel) (sound : Sound S.row) (laws : Laws (code S).ops) (W : W
     (cipher : CipherLaws S.fit.cipher S.fit.encrypt) (least : 1 ≤ needed S) (within : needed S ≤ fitted S) (most : fitted S ≤ 16)
     (f : ℕ) (many : too_few S f ≡ false) (key file : List ℕ) (issue : ℕ) (block : Block key) (bytes : Bytes file) (short : length file ≤ 4092) (size : (kept S f).size ≡ length file)
     (low : 1 ≤ issue) (high : issue < 65536)
-    (keep : All (λ c. S.row.slot c f ≡ Held (record_of (code S) (sealed S.fit.encrypt S.fit.cipher key file) c issue)) (positions S f)) where
+    (keep : AllByRecursion (λ c. S.row.slot c f ≡ Held (record_of (code S) (sealed S.fit.encrypt S.fit.cipher key file) c issue)) (positions S f)) where
   abbrev pkg : List ℕ
   pkg = sealed S.fit.encrypt S.fit.cipher key file
 
@@ -98,7 +98,7 @@ module _ (S : SiteModel) (sound : Sound S.row) (laws : Laws (code S).ops) (W : W
     long = length-records S sound most f many ∙ ap (λ n. needed S * n) whole_is;
     each = λ i hi.
         let c = at (positions S f) i in
-        let lengths : All (λ d. length (held (S.row.slot d f)) ≡ wide) (positions S f) =
+        let lengths : AllByRecursion (λ d. length (held (S.row.slot d f)) ≡ wide) (positions S f) =
         All-weaker _ (λ d. length (held (S.row.slot d f)) ≡ wide) (λ d h. h.1 ∙ whole_is) (positions S f) (positions_hold S f) in
         let here : part (records S f) (i * wide) wide ≡ record_of (code S) pkg c issue =
         part_joined (λ d. held (S.row.slot d f)) wide (positions S f) lengths i (omega (arith, count))

@@ -1,7 +1,7 @@
 -- Records that are read end to end. Assumes nothing.
 use Rattle.std.proofs.Common.{◌≡◌, ℕ, ◌+◌, ◌*◌, ◌<◌, ◌≤◌, Bool, true, leb, List, [], ◌∷◌, length, get_or, take, drop, Ok, Err, Result, sym, refl, ap, ◌∙◌, ⊎_elim, mul-le-mul_right, add-mul, one-mul, zero-mul, add-one, arith}
 use borrow.Rule.Slice.PartMut.{put_mid}
-use Rattle.std.specs.List.{flat_map, AllByRecursion as All}
+use Rattle.std.specs.List.{flat_map, AllByRecursion}
 use Rattle.std.proofs.ByRecursion.{All-get_or, All-take}
 use Rattle.std.proofs.lemmas.List.{flat_map_more, length-append, length-drop, length-take-le, take_all, take_more}
 use Rattle.std.proofs.lemmas.Bool.{cases_lt, leb-true}
@@ -49,7 +49,7 @@ module _ (m : RowModel) (S : Sound m) (f width : ℕ) where
           let long : length bs ≤ n = omega (arith, ap (λ s. length (held s)) is, h.1) in
           leaves_ok (read_answer m c f n) (length bs) buffer (over bs buffer) (read_accepted m c f n bs (reached_there m S c h.0) (a_file c bs is) h.0 is long)
 
-  pub length-records : (cs : List ℕ) → All (Holds m f width) cs → length (flat_map bytes cs) ≡ length cs * width
+  pub length-records : (cs : List ℕ) → AllByRecursion (Holds m f width) cs → length (flat_map bytes cs) ≡ length cs * width
   length-records [] h = sym (zero-mul width)
   length-records (c ∷ cs) h = omega (
     arith,
@@ -62,7 +62,7 @@ module _ (m : RowModel) (S : Sound m) (f width : ℕ) where
   )
 
   -- one more record
-  pub gather_next : (was now last cs : List ℕ) (i c k : ℕ) (answer : Result ℕ RowFault) → All (Holds m f width) cs → i < length cs → i * width + width ≤ length now → k ≡ width →
+  pub gather_next : (was now last cs : List ℕ) (i c k : ℕ) (answer : Result ℕ RowFault) → AllByRecursion (Holds m f width) cs → i < length cs → i * width + width ≤ length now → k ≡ width →
       c ≡ get_or cs i 0 → now ≡ over (flat_map bytes (take i cs)) was → answer ≡ read_answer m c f (length (take k (drop (i * width) now))) →
       last ≡ leaves answer (take k (drop (i * width) now)) (over (bytes c) (take k (drop (i * width) now))) →
       put_mid (i * width) k now last ≡ over (flat_map bytes (take (i + 1) cs)) was

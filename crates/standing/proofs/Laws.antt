@@ -1,6 +1,6 @@
 -- What holds of the cabinets that stand for a file and of those that do not: for the layers above. Assumes nothing.
 use Rattle.std.proofs.Common.{◌≡◌, ℕ, zero, suc, ◌+◌, ◌^◌, ◌<◌, ◌≤◌, min, Bool, true, false, cond, ◌&&◌, List, ◌∷◌, length, get_or, Some, None, filter, Option, sym, refl, ap, ◌∙◌, inl, inr, ⊎_elim, pow-suc, arith}
-use Rattle.std.specs.List.{range_with_len, AllByRecursion as All}
+use Rattle.std.specs.List.{range_with_len, AllByRecursion}
 use Rattle.std.proofs.ByRecursion.{All-get_or, all_kept_by, All-take, kept_by_passes}
 use Rattle.std.proofs.lemmas.List.{get_or-take, length-take}
 use Rattle.std.proofs.lemmas.Bool.{cases_Bool, cases_lt, cond_both, eqb-true, true≢false}
@@ -75,16 +75,16 @@ survey_whole m due f (suc n) = rw pow-suc (omega (arith, survey_whole m due f n,
 abbrev Rising : List ℕ → Type 0
 Rising xs = (i j : ℕ) → i < j → j < length xs → get_or xs i 0 < get_or xs j 0
 
-rising_cons : (a : ℕ) (xs : List ℕ) → All (λ c. a < c) xs → Rising xs → Rising (a ∷ xs)
+rising_cons : (a : ℕ) (xs : List ℕ) → AllByRecursion (λ c. a < c) xs → Rising xs → Rising (a ∷ xs)
 rising_cons a xs h r i zero l k = absurd (omega arith)
 rising_cons a xs h r zero (suc j) l k = All-get_or (λ c. a < c) xs j 0 (omega arith) h
 rising_cons a xs h r (suc i) (suc j) l k = r i j (omega arith) (omega arith)
 
-counting_from : (a n b : ℕ) → b < a → All (λ c. b < c) (range_with_len a n)
+counting_from : (a n b : ℕ) → b < a → AllByRecursion (λ c. b < c) (range_with_len a n)
 counting_from a zero b h = tt
 counting_from a (suc n) b h = (h, counting_from (a + 1) n b (omega arith))
 
-counting_below : (a n b : ℕ) → a + n ≤ b → All (λ c. c < b) (range_with_len a n)
+counting_below : (a n b : ℕ) → a + n ≤ b → AllByRecursion (λ c. c < b) (range_with_len a n)
 counting_below a zero b h = tt
 counting_below a (suc n) b h = (omega arith, counting_below (a + 1) n b (omega arith))
 
@@ -98,10 +98,10 @@ module _ (test : ℕ → Bool) where
       (λ _. rising_cons a rest (all_kept_by test (λ c. a < c) (range_with_len (a + 1) n) (counting_from (a + 1) n a (omega arith))) on) (λ _. on)
 
   module _ (k n : ℕ) where
-    pub lowest-passes : All (λ c. test c ≡ true) (lowest k test n)
+    pub lowest-passes : AllByRecursion (λ c. test c ≡ true) (lowest k test n)
     lowest-passes = All-take (λ c. test c ≡ true) k (members test n) (kept_by_passes test (range_with_len 0 n))
 
-    pub lowest-below : All (λ c. c < n) (lowest k test n)
+    pub lowest-below : AllByRecursion (λ c. c < n) (lowest k test n)
     lowest-below = All-take (λ c. c < n) k (members test n) (all_kept_by test (λ c. c < n) (range_with_len 0 n) (counting_below 0 n n (omega arith)))
 
     pub lowest_rises : (i j : ℕ) → i < j → j < length (lowest k test n) → get_or (lowest k test n) i 0 < get_or (lowest k test n) j 0

@@ -1,5 +1,5 @@
 ghost use Rattle.std.specs.Prelude.{◌≡◌, ◌*◌, ◌≤◌, length, nat_le};
-ghost use Rattle.std.specs.List.{flat_map, AllByRecursion as All};
+ghost use Rattle.std.specs.List.{flat_map, AllByRecursion};
 ghost use Rattle.base.specs.Bytes.{over};
 ghost use Rattle.rows.specs.Model.{held};
 ghost use Rattle.standing.specs.Gather.{Holds};
@@ -20,7 +20,7 @@ fn fits(count: usize, width: usize, room: usize) -> bool
 // Where one of them has no record of `stride` bytes, or `out` no room for all, what `out` then has is not said.
 pub fn gather<R: ReadRow>(row: &R, file: usize, positions: &[u8], stride: usize, out: &mut [u8])
     ensures long { length out.new ≡ length out.old }
-    ensures records { All (Holds (R.ReadRow.model row.now) file stride) positions.now → length positions.now * stride ≤ length out.old → out.new ≡ over (flat_map (λ c. held ((R.ReadRow.model row.now).slot c file)) positions.now) out.old }
+    ensures records { AllByRecursion (Holds (R.ReadRow.model row.now) file stride) positions.now → length positions.now * stride ≤ length out.old → out.new ≡ over (flat_map (λ c. held ((R.ReadRow.model row.now).slot c file)) positions.now) out.old }
 {
     if !fits(positions.len(), stride, out.len()) {
         return;
