@@ -45,6 +45,7 @@ extern "C" {
 #define RUNNELPAN_RECORDS_MISFIT 11   /* these are not the records of k cabinets: see runnelpan_join */
 #define RUNNELPAN_SYMBOL_MISFIT 12    /* they are, and no package was cut into them: see runnelpan_join */
 #define RUNNELPAN_UNKNOWN 13          /* no such cipher or field, or k and n are no plan: not 1 <= k <= n <= 16 */
+#define RUNNELPAN_UNKNOWN_CIPHER 13   /* the same number, of the calls that take a cipher */
 #define RUNNELPAN_FILE_TOO_LONG 14    /* the file has more than RUNNELPAN_MAX_FILE bytes */
 #define RUNNELPAN_KEY_NOT_SIXTEEN 15  /* the key has not RUNNELPAN_KEY bytes */
 #define RUNNELPAN_PACKAGE_MISFIT 16   /* no package has that length */
@@ -79,7 +80,7 @@ extern "C" {
  * Answers the package's length, and the package stands in the front of `out`; the rest of `out` stays as it was.
  *
  * Refusals, in this order, each of which leaves all of `out` as it was:
- *   RUNNELPAN_UNKNOWN, RUNNELPAN_FILE_TOO_LONG, RUNNELPAN_KEY_NOT_SIXTEEN, RUNNELPAN_OUTPUT_SHORT.
+ *   RUNNELPAN_UNKNOWN_CIPHER, RUNNELPAN_FILE_TOO_LONG, RUNNELPAN_KEY_NOT_SIXTEEN, RUNNELPAN_OUTPUT_SHORT.
  */
 int64_t runnelpan_seal(uint32_t cipher, const uint8_t *key, size_t key_len, const uint8_t *file, size_t file_len,
                        uint8_t *out, size_t out_len);
@@ -94,7 +95,7 @@ int64_t runnelpan_seal(uint32_t cipher, const uint8_t *key, size_t key_len, cons
  * length is answered, the package is one that some key seals that very file to.
  *
  * Refusals, in this order, each of which leaves all of `out` as it was:
- *   RUNNELPAN_UNKNOWN, RUNNELPAN_PACKAGE_MISFIT, RUNNELPAN_CANARY_WRONG, RUNNELPAN_NO_SUCH_FILE,
+ *   RUNNELPAN_UNKNOWN_CIPHER, RUNNELPAN_PACKAGE_MISFIT, RUNNELPAN_CANARY_WRONG, RUNNELPAN_NO_SUCH_FILE,
  *   RUNNELPAN_OUTPUT_SHORT.
  */
 int64_t runnelpan_unseal(uint32_t cipher, const uint8_t *package, size_t package_len, uint8_t *out, size_t out_len);

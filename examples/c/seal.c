@@ -113,13 +113,13 @@ static void unknown_cipher(uint32_t cipher)
 {
     printf("cipher %" PRIu32 "\n", cipher);
     reset();
-    expect("seal", seal(cipher, NULL, 0, sizeof package), -RUNNELPAN_UNKNOWN);
+    expect("seal", seal(cipher, NULL, 0, sizeof package), -RUNNELPAN_UNKNOWN_CIPHER);
     expect("seal 4093 bytes under no key into no output", runnelpan_seal(cipher, NULL, 0, longest, 4093, NULL, 0),
-           -RUNNELPAN_UNKNOWN);
+           -RUNNELPAN_UNKNOWN_CIPHER);
     expect_untouched("the output", package, 0, sizeof package);
-    expect("unseal", unseal(cipher, 48, sizeof file), -RUNNELPAN_UNKNOWN);
+    expect("unseal", unseal(cipher, 48, sizeof file), -RUNNELPAN_UNKNOWN_CIPHER);
     expect("unseal a null package into no output", runnelpan_unseal(cipher, NULL, 0, NULL, 0),
-           -RUNNELPAN_UNKNOWN);
+           -RUNNELPAN_UNKNOWN_CIPHER);
     expect_untouched("the output", file, 0, sizeof file);
 }
 

@@ -11,6 +11,7 @@ ghost use Rattle.aont.specs.Seals.{seal_answer, unseal_answer, unsealed, Unseals
 use crate::blocks::{bind, block_at, mask_blocks, put};
 pub use crate::fault::SealFault;
 use crate::frame::lay_out;
+pub use crate::lengths::{length_of_package, sealed_length};
 use crate::opening::{file_length, has_canary, key_in, write_file};
 use base::is_misfit;
 use cipher::Cipher;
@@ -18,30 +19,10 @@ use cipher::Cipher;
 mod blocks;
 pub mod fault;
 mod frame;
+mod lengths;
 mod opening;
 
 const LONGEST_FILE: usize = 4092;
-
-// The length of the package of a file of so many bytes.
-pub fn length_of_package(size: u16) -> usize
-    ensures { result ≡ package_length size }
-{
-    16 * ((usize::from(size) + 19) / 16) + 32
-}
-
-// The length of the package that a file would be sealed to under a key, or the refusal that sealing it would meet before it looks
-// at the output: the file is too long, or the key has not sixteen bytes.
-pub fn sealed_length(key: &[u8], file: &[u8]) -> Result<usize, SealFault>
-    ensures { result ≡ seal_answer (length file.now) (length key.now) (package_length (length file.now)) }
-{
-    if file.len() > LONGEST_FILE {
-        return Err(SealFault::FileTooLong);
-    }
-    if key.len() != 16 {
-        return Err(SealFault::KeyNotSixteen);
-    }
-    Ok(package_length(file.len()))
-}
 
 // Seals a file under a key that the caller draws, into the front of the output, and answers the package's length.
 // The rest of the output stays as it was, and all of it on a refusal: the file is too long, the key has not sixteen
@@ -50,7 +31,13 @@ pub fn seal<C: Cipher>(key: &[u8], file: &[u8], out: &mut [u8]) -> Result<usize,
     ensures answers { result ≡ seal_answer (length file.now) (length key.now) (length out.old) }
     ensures fills { out.new ≡ leaves result out.old (over (sealed C.Cipher.encrypted C.Cipher.number key.now file.now) out.old) }
 {
-    let length = sealed_length(key, file)?;
+    if file.len() > LONGEST_FILE {
+        return Err(SealFault::FileTooLong);
+    }
+    if key.len() != 16 {
+        return Err(SealFault::KeyNotSixteen);
+    }
+    let length = package_length(file.len());
     if out.len() < length {
         return Err(SealFault::OutputShort);
     }

@@ -1,5 +1,5 @@
 -- Work orders: what is handed out, and what spending one does. Assumes nothing.
-use Rattle.std.specs.Prelude.{ℕ, Bool, false, cond, not, ◌&&◌, is_ok, Ok, Result, ◌==◌, nat_lt, slice_set}
+use Rattle.std.specs.Prelude.{ℕ, Bool, true, false, cond, not, ◌&&◌, is_ok, Ok, Result, ◌==◌, nat_lt, slice_set}
 use Rattle.base.specs.Answers.{refuse, pass}
 use Rattle.rows.specs.Model.{RowModel, Held}
 use Rattle.standing.specs.Sets.{set_of}
@@ -10,9 +10,9 @@ use Rattle.site.specs.declared.orders.Refilled.{Refilled}
 use Rattle.site.specs.Model.{SiteModel, with_marks, with_row, fitted, kept, marked, standing, too_few, lacking}
 use Rattle.site.specs.Calls.{of_fitted, cabinet_call, rebuilding, rebuilt_record}
 
--- an order for a cabinet
+-- an order for a cabinet, as it is handed out
 abbrev pub order_for : ℕ → Order
-order_for c = record { cabinet = c }
+order_for c = record { cabinet = c; unspent = true }
 
 -- swap
 abbrev pub swap_answer : SiteModel → ℕ → Result Order SiteCause

@@ -1,33 +1,44 @@
 // Work orders.
-ghost use Rattle.std.specs.Prelude.{◌≡◌};
+ghost use Rattle.std.specs.Prelude.{◌≡◌, false};
+ghost use Rattle.site.specs.Orders.{order_for};
 
 // A work order for one cabinet, which a site hands out when the cabinet is swapped. It is spent by a refill, or deferred; there is
-// no other way to let it go.
+// no other way to let it go, since each that is handed out is unspent.
 pub struct Order {
     cabinet: usize,
+    unspent: bool,
 }
 
 impl Order {
     pub(crate) fn for_cabinet(cabinet: usize) -> Order
-        ensures { result.cabinet ≡ cabinet }
+        ensures { result ≡ order_for cabinet }
     {
-        Order { cabinet }
+        Order {
+            cabinet,
+            unspent: true,
+        }
     }
 
     pub(crate) fn spend(self) -> usize
         ensures { result ≡ self.cabinet }
     {
-        let Order { cabinet } = self;
+        let Order {
+            cabinet,
+            unspent: _,
+        } = self;
         cabinet
     }
 }
 
-// That an order is let go unspent has no proof.
+// That an unspent order is let go has no proof.
 impl Drop for Order {
     fn drop(self)
-        requires { ⊥ }
+        requires { self.unspent ≡ false }
     {
-        let Order { cabinet: _ } = self;
+        let Order {
+            cabinet: _,
+            unspent: _,
+        } = self;
     }
 }
 
