@@ -1,4 +1,4 @@
--- The state and the round keys hold bytes. Assumes nothing.
+-- The state and the round keys hold bytes, which the interface asks to be shown: proofs, nobody has to believe them. Assumes nothing.
 use Rattle.std.specs.Prelude.{ℕ, zero, suc, ◌+◌, ◌-◌, ◌*◌, ◌/◌, ◌%◌, ◌<◌, Bool, true, false, T, List, [], ◌∷◌, bit_xor, nat_lt, slice_index}
 use Rattle.std.proofs.Common.{arith, ltb→lt}
 use Rattle.std.proofs.lemmas.Nat.{xor_lt}

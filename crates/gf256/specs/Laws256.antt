@@ -1,4 +1,4 @@
--- GF(256) is a field. Assumes nothing.
+-- GF(256) is a field, which the interface asks to be shown: proofs, nobody has to believe them. Assumes nothing.
 use Rattle.std.specs.Prelude.{ℕ, List, [], ◌∷◌}
 use Rattle.std.proofs.Common.{lit<, lit≤}
 use Rattle.algebra.specs.Fields.{Laws, Widths}

@@ -1,4 +1,4 @@
--- GF(65537) is a field. Assumes nothing.
+-- GF(65537) is a field, which the interface asks to be shown: proofs, nobody has to believe them. Assumes nothing.
 use Rattle.std.specs.Prelude.{◌≡◌, ℕ, zero, suc, ◌+◌, ◌-◌, ◌*◌, ◌%◌, ◌<◌}
 use Rattle.std.proofs.Common.{sym, ap, ◌∙◌, mod-lt, mod-eq_of_lt, mul-add, mul_assoc, mul_comm, add_comm, add_assoc, mul-one, zero-mul, arith, lit<, lit≤}
 use Rattle.std.proofs.Math.Nat.{mod-add-mod, add-mod-mod, add-mod_right}

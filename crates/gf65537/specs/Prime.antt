@@ -1,4 +1,4 @@
--- 65,537 is prime, and so each number below it but 0 has an inverse. Assumes nothing.
+-- 65,537 is prime, and so each number below it but 0 has an inverse: proofs, nobody has to believe them. Assumes nothing.
 use Rattle.std.specs.Prelude.{◌≡◌, ℕ, zero, suc, ◌+◌, ◌-◌, ◌*◌, ◌/◌, ◌%◌, ◌<◌, ◌≤◌, Bool, T, nat_lt}
 use Rattle.std.proofs.Common.{⊎_elim, sym, ap, ◌∙◌, mod-lt, mod-eq_of_lt, add-mul, mul_assoc, mul_comm, mul-one, mul-zero, mul-le-mul_right, arith, lit<, ltb→lt}
 use Rattle.std.proofs.Math.Nat.{mod-add-div, add-mul-mod_self_left, mul-sub, mul-mod_right}

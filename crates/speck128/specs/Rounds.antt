@@ -1,4 +1,5 @@
--- The rounds on a block's two words, and those on a key's, are the rounds on all four. Assumes nothing.
+-- The rounds on a block's two words, and those on a key's, are the rounds on all four: proofs, nobody has to believe them.
+-- Assumes nothing.
 use Rattle.std.specs.Prelude.{◌≡◌, ℕ, zero, suc, ◌+◌, ◌%◌, ◌^◌, ◌<◌, List, [], ◌∷◌, ◌++◌, length, bit_xor, slice_index, slice_set, refl}
 use Rattle.std.proofs.Common.{ap, ◌∙◌, add_comm, add-one, arith}
 use Rattle.std.proofs.lemmas.List.Edits.{fill_by_more}
