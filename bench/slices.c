@@ -89,8 +89,8 @@ static void spread_blocks(void)
 }
 
 /*
- * zfec's C code stands in the module of its Python package. The names of Python's that the module asks for stand in a
- * file beside this one, which the Makefile writes; nothing that is called below uses them.
+ * zfec's C code stands in the module of its Python package. The names of Python's that the module asks for stand in
+ * build/python.c, which the Makefile writes; nothing that is called below uses them.
  */
 static void *zfec;
 static void (*zfec_encode)(const void *, const uint8_t *const *, uint8_t *const *, const unsigned *, size_t, size_t);

@@ -20,7 +20,7 @@
  * A buffer is a pointer and a length in bytes. The pointer may be NULL where the length is 0, and is then not followed.
  * Otherwise it points to that many bytes, and `out` overlaps no other buffer of the same call.
  *
- * Link with librunnelpan.a. It needs memcpy and memset, and nothing else.
+ * Link with librunnelpan.a. It needs memcpy, memmove and memset, and nothing else.
  */
 #ifndef RUNNELPAN_H
 #define RUNNELPAN_H

@@ -1,4 +1,4 @@
-// Takes a bay map through the layers that stand, and prints each action.
+// Takes a bay map through sealing, cutting and a shelf, and prints each action.
 #![tactic(auto)]
 
 mod sealing;

@@ -1,5 +1,5 @@
--- What the code computes: symbols by Lagrange's formula. Nobody has to believe it, since the contracts that cite it also say,
--- in a polynomial's words, what it gives. Assumes nothing.
+-- What the code computes: symbols by Lagrange's formula. Nobody has to believe it, since the contract of cutting also says, in a
+-- polynomial's words, what it gives. Assumes nothing.
 use Rattle.std.specs.Prelude.{ℕ, ◌*◌, List, ◌++◌, map, length}
 use Rattle.std.specs.List.{range_with_len, flat_map}
 use Rattle.base.specs.Bytes.{le_bytes}

@@ -2,8 +2,8 @@
 ghost use Rattle.std.specs.Prelude.{◌≡◌, false};
 ghost use Rattle.site.specs.Orders.{order_for};
 
-// A work order for one cabinet, which a site hands out when the cabinet is swapped. It is spent by a refill, or deferred; there is
-// no other way to let it go, since each that is handed out is unspent.
+// A work order for one cabinet, which a site hands out when the cabinet is swapped, or its open mark is resumed. It is spent by a
+// refill, or deferred; there is no other way to let it go, since each that is handed out is unspent.
 pub struct Order {
     cabinet: usize,
     unspent: bool,
