@@ -70,6 +70,19 @@ record_written f v ws slices front out body stride ef low e =
     ∙ length-drop 6 out in
     laid front out body (length out - 6) ef (omega arith) size ∙ ap (λ xs. front ++ xs) whole
 
+-- a record in the front of an output that has room for it
+front_laid : (C : Coding) (bytes c issue : ℕ) (points : ℕ → ℕ) (slices out last : List ℕ) (whole stride : ℕ) → whole ≡ record_length C bytes →
+    last ≡ combined_record C bytes points slices stride c issue → last ++ post_of 0 (whole - 0) out ≡ over (combined_record C bytes points slices stride c issue) out
+unfolding combined_record
+front_laid C bytes c issue points slices out last whole stride ew is =
+    let cols = columns C bytes in
+    let front = head (record_length C bytes) C.number issue in
+    let body = combined C.ops C.stored (point_weights C points c) slices stride cols in
+    let size : length last ≡ whole =
+    ap length is ∙ length-append front body ∙ ap (λ n. n + length body) (head_six (record_length C bytes) C.number issue)
+    ∙ ap (λ n. 6 + n) (length-combined C.ops C.stored (point_weights C points c) slices stride cols) ∙ sym ew in
+    ap (λ n. last ++ drop n out) (sub-zero whole ∙ sym size) ∙ ap (λ xs. over xs out) is
+
 -- the record in the front of an output, by the code's own name of its length
 pub combined_laid : (C : Coding) (bytes c issue : ℕ) (points : ℕ → ℕ) (slices out last : List ℕ) (whole stride : ℕ) → whole ≡ record_length C bytes → 0 < C.stored → whole ≤ length out →
     last ≡ head (length (take (whole - 0) out)) C.number issue
@@ -88,13 +101,24 @@ combined_laid C bytes c issue points slices out last whole stride ew pos room e 
     e ∙ ap (λ n. head n C.number issue ++ over (body ((length own - 6) / v)) (drop 6 own)) long
     ∙ ap (λ n. front ++ over (body n) (drop 6 own)) count
     ∙ ap (λ xs. front ++ xs) (over_whole (body cols) (drop 6 own) (omega (arith, length-combined C.ops v (point_weights C points c) slices stride cols, length-drop 6 own, long))) in
-    let size : length last ≡ whole =
-    ap length is ∙ length-append front (body cols) ∙ ap (λ n. n + length (body cols)) (head_six (record_length C bytes) C.number issue)
-    ∙ ap (λ n. 6 + n) (length-combined C.ops v (point_weights C points c) slices stride cols) ∙ sym ew in
-    ap (λ n. last ++ drop n out) (sub-zero whole ∙ sym size) ∙ ap (λ xs. over xs out) is
+    front_laid C bytes c issue points slices out last whole stride ew is
 
 -- the record from a package's own slices is the one from the slices of the symbols at 0 to k - 1
 pub own_slices : (C : Coding) (bytes : ℕ) (slices : List ℕ) (c issue : ℕ) →
     record_from C bytes slices c issue ≡ combined_record C bytes (λ i. i) slices (columns C bytes * C.stored) c issue
 unfolding record_from combined_record weights_for point_weights
 own_slices C bytes slices c issue = refl
+
+-- and in the front of an output, by the code's own names of the columns and the width
+pub record_laid : (C : Coding) (bytes c issue : ℕ) (slices out last : List ℕ) (m width : ℕ) → m ≡ columns C bytes → width ≡ C.stored → 6 + m * width ≤ length out →
+    last ≡ head (length (take (6 + m * width - 0) out)) C.number issue ++ combined C.ops C.stored (weights_for C c) slices (m * C.stored) m →
+    last ++ post_of 0 (6 + m * width - 0) out ≡ over (record_from C bytes slices c issue) out
+unfolding record_from
+record_laid C bytes c issue slices out last m width em ew room e =
+    let whole : 6 + m * width ≡ record_length C bytes = ap (λ n. 6 + m * n) ew ∙ ap (λ n. 6 + n * C.stored) em in
+    let long : length (take (6 + m * width - 0) out) ≡ record_length C bytes = length-take (6 + m * width - 0) out ∙ omega arith in
+    let same = own_slices C bytes slices c issue in
+    let is : last ≡ record_from C bytes slices c issue =
+    e ∙ ap (λ n. head n C.number issue ++ combined C.ops C.stored (weights_for C c) slices (m * C.stored) m) long
+    ∙ ap (λ n. head (record_length C bytes) C.number issue ++ combined C.ops C.stored (weights_for C c) slices (n * C.stored) n) em in
+    front_laid C bytes c issue (λ i. i) slices out last (6 + m * width) (columns C bytes * C.stored) whole (is ∙ same) ∙ ap (λ xs. over xs out) (sym same)

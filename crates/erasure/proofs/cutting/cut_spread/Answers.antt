@@ -4,7 +4,7 @@ use Rattle.base.specs.Bytes.{over}
 use Rattle.erasure.specs.Records.{coding}
 use Rattle.erasure.specs.Formula.{record_from}
 use Rattle.erasure.proofs.Reading.{one_slice}
-use Rattle.erasure.proofs.Weighing.{record_laid}
+use Rattle.erasure.proofs.Points.{record_laid}
 use Rattle.erasure.proofs.cutting.cut_spread.Goals as goal
 
 pub write_record-requires : goal.write_record-requires
