@@ -11,17 +11,6 @@ part_at bs at width i h = get_or-take width (drop at bs) i 0 h ∙ get_or-drop a
 pub part_past : (bs : List ℕ) (at width i : ℕ) → width ≤ i → get_or (part bs at width) i 0 ≡ 0
 part_past bs at width i h = get_or_past (part bs at width) i 0 (rw length-take (omega arith))
 
--- an index that is held at the largest number reads the same, since no list of the machine is so long
-pub saturated : (bs : List ℕ) (i n : ℕ) → length bs ≤ n → get_or bs (min i n) 0 ≡ get_or bs i 0
-saturated bs i n h = ⊎_elim (λ l. let e : min i n ≡ i = omega arith in ap (λ m. get_or bs m 0) e)
-    (λ l. let a : length bs ≤ min i n = omega arith in let b : length bs ≤ i = omega arith in get_or_past bs (min i n) 0 a ∙ sym (get_or_past bs i 0 b)) (cases_lt i n)
-
-pub le_value_two : (xs : List ℕ) → length xs ≤ 2 → le_value xs ≡ get_or xs 0 0 + get_or xs 1 0 * 256
-le_value_two [] h = refl
-le_value_two (a ∷ []) h = omega arith
-le_value_two (a ∷ b ∷ []) h = omega arith
-le_value_two (a ∷ b ∷ c ∷ xs) h = absurd (omega arith)
-
 pub le_value_four : (xs : List ℕ) → length xs ≤ 4 →
     le_value xs ≡ get_or xs 0 0 + get_or xs 1 0 * 256 + get_or xs 2 0 * 65536 + get_or xs 3 0 * 16777216
 le_value_four [] h = refl

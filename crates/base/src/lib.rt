@@ -6,6 +6,8 @@ ghost use Rattle.std.specs.Prelude.{◌≡◌, ◌+◌, min, length, if◌then�
 ghost use Rattle.base.specs.Sizes.{misfit};
 ghost use Rattle.base.specs.Bytes.{Bytes, le_bytes, le_value, part, written};
 
+use std::array;
+
 // Tells a caller's proof that a slice holds bytes; it does nothing else.
 pub fn holds_bytes(bytes: &[u8])
     ensures { Bytes bytes.now }
@@ -26,7 +28,7 @@ pub fn is_misfit(length: usize) -> bool
 pub fn byte_at(bytes: &[u8], at: usize) -> u8
     ensures { result ≡ slice_index bytes.now at }
 {
-    if at < bytes.len() { bytes[at] } else { 0 }
+    bytes.get(at).copied().unwrap_or(0)
 }
 
 fn byte_of_part(bytes: &[u8], at: usize, width: usize, i: usize) -> u8
@@ -43,7 +45,7 @@ fn byte_of_part(bytes: &[u8], at: usize, width: usize, i: usize) -> u8
 pub fn u16_at(bytes: &[u8], at: usize) -> u16
     ensures { result ≡ le_value (part bytes.now at 2) }
 {
-    u16::from_le_bytes([byte_of_part(bytes, at, 2, 0), byte_of_part(bytes, at, 2, 1)])
+    u16::from_le_bytes(array::from_fn(|i| byte_of_part(bytes, at, 2, i)))
 }
 
 // The little-endian number in so many bytes from a place on, four at most; a byte past the end counts as 0.
@@ -51,12 +53,7 @@ pub fn le_at(bytes: &[u8], at: usize, width: usize) -> u32
     ensures { result ≡ le_value (part bytes.now at (min width 4)) }
 {
     let width = width.min(4);
-    u32::from_le_bytes([
-        byte_of_part(bytes, at, width, 0),
-        byte_of_part(bytes, at, width, 1),
-        byte_of_part(bytes, at, width, 2),
-        byte_of_part(bytes, at, width, 3),
-    ])
+    u32::from_le_bytes(array::from_fn(|i| byte_of_part(bytes, at, width, i)))
 }
 
 // Writes a number little-endian into so many bytes from a place on, or nothing where they do not all lie in the buffer.
@@ -67,8 +64,8 @@ pub fn put_le(out: &mut [u8], at: usize, width: usize, value: u32)
         return;
     }
     let mut rest = value;
-    for i in 0..width {
-        out[at + i] = (rest % 256) as u8;
-        rest = rest / 256;
+    for byte in out[at..at + width].iter_mut() {
+        *byte = (rest % 256) as u8;
+        rest /= 256;
     }
 }
