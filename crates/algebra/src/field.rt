@@ -54,11 +54,11 @@ pub trait Field {
         ensures { result ≡ combined_at ops stored weights.now sources.now stride place }
     {
         let mut sum = 0;
-        for i in 0..weights.len() {
+        for (i, weight) in weights.iter().enumerate() {
             let begin = i.saturating_mul(stride).saturating_add(place);
             sum = Self::add(
                 sum,
-                Self::mul(le_at(sources, begin, Self::stored_width()), weights[i]),
+                Self::mul(le_at(sources, begin, Self::stored_width()), *weight),
             );
         }
         sum
@@ -70,6 +70,7 @@ pub trait Field {
         ensures { out.new ≡ over (combined ops stored weights.now sources.now stride (length out.old / stored)) out.old }
     {
         let width = Self::stored_width();
+        // by index: of what is written through chunks_exact_mut a proof knows only how long it is
         for j in 0..out.len() / width {
             let place = j * width;
             put_le(

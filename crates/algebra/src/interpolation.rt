@@ -34,15 +34,15 @@ pub fn weights<F: Field>(points: &[u32], x: u32, weights: &mut [u32])
     ensures value { length points.now ≤ length weights.old → Interpolates F.ops (length points.now) (at points.now) x (at weights.new) }
 {
     let n = points.len().min(weights.len());
-    for j in 0..n {
-        weights[j] = weight::<F>(points, points[j], x);
+    for (j, p) in points[..n].iter().enumerate() {
+        weights[j] = weight::<F>(points, *p, x);
     }
 }
 
 fn value_at(values: &[u32], j: usize) -> u32
     ensures { result ≡ at values.now j }
 {
-    if j < values.len() { values[j] } else { 0 }
+    values.get(j).copied().unwrap_or(0)
 }
 
 // The value at x of the polynomial that has these values at these points; a value that is not given counts as 0.
@@ -51,11 +51,8 @@ pub fn interpolate<F: Field>(points: &[u32], values: &[u32], x: u32) -> u32
     ensures value { Points F.ops (length points.now) (at points.now) → ((i : ℕ) → i < length points.now → at values.now i < F.ops.size) → x < F.ops.size → ValueAt F.ops (length points.now) (at points.now) (at values.now) x result }
 {
     let mut sum = 0;
-    for j in 0..points.len() {
-        sum = F::add(
-            sum,
-            F::mul(value_at(values, j), weight::<F>(points, points[j], x)),
-        );
+    for (j, p) in points.iter().enumerate() {
+        sum = F::add(sum, F::mul(value_at(values, j), weight::<F>(points, *p, x)));
     }
     sum
 }
