@@ -7,7 +7,7 @@ use Rattle.binary.proofs.Bilinear.{Basis, product_lt, product-comm, product-asso
 use Rattle.binary.proofs.Field.{basis, only_inverse}
 use Rattle.binary.proofs.Linear.{product-zero, zero-product}
 use Rattle.gf256.specs.Powers.{power}
-use Rattle.gf256.proofs.Entries.{powers, exponents}
+use Rattle.gf256.specs.declared.tables.TheConstants.{POWERS, EXPONENTS}
 use Rattle.gf256.specs.Laws256.{undoing, passed}
 
 abbrev m : ℕ → ℕ → ℕ
@@ -56,30 +56,29 @@ doubling_at x (y ∷ ys) i t e (suc k) h =
     (eqb→eq y (m x 2) (both_left (eqb y (m x 2)) (doubling y ys) t) ∙ ap (λ z. m z 2) e) k (omega arith)
     ∙ ap power (suc-add i k ∙ sym (add-suc i k))
 
-pub powers_at : (k : ℕ) → k < 510 → get_or powers k 0 ≡ power k
-unfolding powers power carryless remainder product
-powers_at k h = doubling_at 1 (drop 1 powers) 0 tt refl k h ∙ ap power (zero-add k)
+pub powers_at : (k : ℕ) → k < 510 → get_or POWERS k 0 ≡ power k
+unfolding power carryless remainder product
+powers_at k h = doubling_at 1 (drop 1 POWERS) 0 tt refl k h ∙ ap power (zero-add k)
 
 -- each entry is an exponent, and the power at it is the entry's place, counted from a
 abbrev logarithms : ℕ → List ℕ → Bool
 logarithms a [] = true
-logarithms a (x ∷ xs) = both (both (ltb x 255) (eqb (get_or powers x 0) a)) (logarithms (suc a) xs)
+logarithms a (x ∷ xs) = both (both (ltb x 255) (eqb (get_or POWERS x 0) a)) (logarithms (suc a) xs)
 
 logarithms_at : (xs : List ℕ) (a : ℕ) → T (logarithms a xs) → (k : ℕ) → k < length xs → (get_or xs k 0 < 255) × (power (get_or xs k 0) ≡ a + k)
 logarithms_at [] a t k h = absurd (omega arith)
 logarithms_at (x ∷ xs) a t zero h =
-    let own = both_left (both (ltb x 255) (eqb (get_or powers x 0) a)) (logarithms (suc a) xs) t in
-    let small : x < 255 = ltb→lt x 255 (both_left (ltb x 255) (eqb (get_or powers x 0) a) own) in
-    (small, sym (powers_at x (omega arith)) ∙ eqb→eq (get_or powers x 0) a (both_right (ltb x 255) (eqb (get_or powers x 0) a) own) ∙ sym (add-zero a))
+    let own = both_left (both (ltb x 255) (eqb (get_or POWERS x 0) a)) (logarithms (suc a) xs) t in
+    let small : x < 255 = ltb→lt x 255 (both_left (ltb x 255) (eqb (get_or POWERS x 0) a) own) in
+    (small, sym (powers_at x (omega arith)) ∙ eqb→eq (get_or POWERS x 0) a (both_right (ltb x 255) (eqb (get_or POWERS x 0) a) own) ∙ sym (add-zero a))
 logarithms_at (x ∷ xs) a t (suc k) h =
-    let r = logarithms_at xs (suc a) (both_right (both (ltb x 255) (eqb (get_or powers x 0) a)) (logarithms (suc a) xs) t) k (omega arith) in
+    let r = logarithms_at xs (suc a) (both_right (both (ltb x 255) (eqb (get_or POWERS x 0) a)) (logarithms (suc a) xs) t) k (omega arith) in
     (r.0, r.1 ∙ omega arith)
 
 -- the entry for 0, which has no exponent, is passed over
-pub exponents_at : (a : ℕ) → 0 < a → a < 256 → (get_or exponents a 0 < 255) × (power (get_or exponents a 0) ≡ a)
-unfolding exponents powers
+pub exponents_at : (a : ℕ) → 0 < a → a < 256 → (get_or EXPONENTS a 0 < 255) × (power (get_or EXPONENTS a 0) ≡ a)
 exponents_at zero pos h = absurd (omega arith)
-exponents_at (suc k) pos h = let r = logarithms_at (drop 1 exponents) 1 tt k (omega arith) in (r.0, r.1 ∙ omega arith)
+exponents_at (suc k) pos h = let r = logarithms_at (drop 1 EXPONENTS) 1 tt k (omega arith) in (r.0, r.1 ∙ omega arith)
 
 pub product-power : (a b i j : ℕ) → power i ≡ a → power j ≡ b → power (i + j) ≡ m a b
 product-power a b i j ea eb = sym (power-add i j) ∙ ap (λ x. m x (power j)) ea ∙ ap (m a) eb

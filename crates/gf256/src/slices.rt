@@ -18,14 +18,15 @@ fn double(a: u8) -> u8
 fn double_all(out: &mut [u8])
     ensures { out.new ≡ doubled out.old }
 {
-    for j in 0..out.len() {
-        out[j] = double(out[j]);
+    for byte in out.iter_mut() {
+        *byte = double(*byte);
     }
 }
 
 fn add_all(out: &mut [u8], slice: &[u8])
     ensures { out.new ≡ added out.old slice.now 0 }
 {
+    // by index: of what is written through a zip of iter_mut a proof knows nothing
     for j in 0..out.len().min(slice.len()) {
         out[j] = out[j] ^ slice[j];
     }
@@ -50,8 +51,8 @@ fn add_bit(weights: &[u32], sources: &[u8], stride: usize, bit: usize, out: &mut
     requires { bit < 8 }
     ensures { out.new ≡ bits_added bit out.old weights.now sources.now stride (length weights.now) }
 {
-    for i in 0..weights.len() {
-        if has_bit(weights[i], bit) {
+    for (i, weight) in weights.iter().enumerate() {
+        if has_bit(*weight, bit) {
             add_from(out, sources, i.saturating_mul(stride));
         }
     }
