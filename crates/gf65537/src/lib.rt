@@ -13,51 +13,68 @@ mod slices;
 
 const SIZE: u32 = 65537;
 
-fn coded(a: u32) -> u32
-    ensures value { result ≡ code 65537 a }
-    ensures small { result < 65537 }
-{
-    if a < SIZE { a } else { 0 }
+// A number below the field's size.
+#[derive(Clone, Copy)]
+struct Code {
+    value: u32,
+    ghost small: { value < 65537 },
 }
 
-fn sum(a: u32, b: u32) -> u32
-    requires { (a < 65537) × (b < 65537) }
-    ensures { result ≡ (a + b) % 65537 }
-{
-    let whole = a + b;
-    if whole < SIZE { whole } else { whole - SIZE }
-}
-
-fn difference(a: u32, b: u32) -> u32
-    requires { (a < 65537) × (b < 65537) }
-    ensures { result ≡ (a + (65537 - b)) % 65537 }
-{
-    if a < b { a + (SIZE - b) } else { a - b }
-}
-
-fn product(a: u32, b: u32) -> u32
-    requires { (a < 65537) × (b < 65537) }
-    ensures { result ≡ times a b }
-{
-    (u64::from(a) * u64::from(b) % 65537) as u32
-}
-
-// With 65537 = q x + r, the product of x and -q is r. So while a c = x, the same holds of -q c and r, and since 65537 is
-// prime, r falls to 1 and not to 0.
-fn inverse(a: u32) -> u32
-    requires { a < 65537 }
-    ensures { result ≡ inverse 65537 times a }
-{
-    if a == 0 {
-        return 0;
+impl Code {
+    // The code that a number is read as: itself, or 0 where it is none.
+    fn of(a: u32) -> Code
+        ensures { result.value ≡ code 65537 a }
+    {
+        Code {
+            value: if a < SIZE { a } else { 0 },
+        }
     }
-    let mut x = a;
-    let mut c = 1;
-    while x > 1 {
-        c = product(SIZE - SIZE / x, c);
-        x = SIZE % x;
+
+    fn plus(self, other: Code) -> Code
+        ensures { result.value ≡ (self.value + other.value) % 65537 }
+    {
+        let whole = self.value + other.value;
+        Code {
+            value: if whole < SIZE { whole } else { whole - SIZE },
+        }
     }
-    c
+
+    fn minus(self, other: Code) -> Code
+        ensures { result.value ≡ (self.value + (65537 - other.value)) % 65537 }
+    {
+        let (a, b) = (self.value, other.value);
+        Code {
+            value: if a < b { a + (SIZE - b) } else { a - b },
+        }
+    }
+
+    fn times(self, other: Code) -> Code
+        ensures { result.value ≡ times self.value other.value }
+    {
+        Code {
+            value: (u64::from(self.value) * u64::from(other.value) % 65537) as u32,
+        }
+    }
+
+    // With 65537 = q x + r, the product of x and -q is r. So while a c = x, the same holds of -q c and r, and since 65537
+    // is prime, r falls to 1 and not to 0.
+    fn inverse(self) -> Code
+        ensures { result.value ≡ inverse 65537 times self.value }
+    {
+        if self.value == 0 {
+            return self;
+        }
+        let mut x = self.value;
+        let mut c = Code { value: 1 };
+        while x > 1 {
+            c = Code {
+                value: SIZE - SIZE / x,
+            }
+            .times(c);
+            x = SIZE % x;
+        }
+        c
+    }
 }
 
 // The field of 65,537 codes: whole numbers modulo that prime.
@@ -99,19 +116,19 @@ impl Field for Gf65537 {
     }
 
     fn add(a: u32, b: u32) -> u32 {
-        sum(coded(a), coded(b))
+        Code::of(a).plus(Code::of(b)).value
     }
 
     fn sub(a: u32, b: u32) -> u32 {
-        difference(coded(a), coded(b))
+        Code::of(a).minus(Code::of(b)).value
     }
 
     fn mul(a: u32, b: u32) -> u32 {
-        product(coded(a), coded(b))
+        Code::of(a).times(Code::of(b)).value
     }
 
     fn inv(a: u32) -> u32 {
-        inverse(coded(a))
+        Code::of(a).inverse().value
     }
 
     fn combine(weights: &[u32], sources: &[u8], stride: usize, out: &mut [u8]) {

@@ -6,16 +6,15 @@ ghost use Rattle.algebra.specs.Fields.{code};
 ghost use Rattle.algebra.specs.Slices.{stored_at, combined_at, combined};
 ghost use Rattle.gf65537.specs.Gf65537.{gf65537};
 
-use crate::{Gf65537, coded};
+use crate::{Code, Gf65537};
 use algebra::Field;
 use base::put_le;
 
-fn code_within(sources: &[u8], at: usize) -> u32
+fn code_within(sources: &[u8], at: usize) -> Code
     requires { at + 3 ≤ length sources.now }
-    ensures value { result ≡ code 65537 (stored_at 3 sources.now at) }
-    ensures small { result < 65537 }
+    ensures { result.value ≡ code 65537 (stored_at 3 sources.now at) }
 {
-    coded(u32::from_le_bytes([sources[at], sources[at + 1], sources[at + 2], 0]))
+    Code::of(u32::from_le_bytes([sources[at], sources[at + 1], sources[at + 2], 0]))
 }
 
 fn sum_within(weights: &[u32], sources: &[u8], stride: usize, place: usize) -> u32
@@ -24,9 +23,9 @@ fn sum_within(weights: &[u32], sources: &[u8], stride: usize, place: usize) -> u
     ensures { result ≡ combined_at gf65537 3 weights.now sources.now stride place }
 {
     let mut sum = 0u64;
-    for i in 0..weights.len() {
-        sum = sum
-            + u64::from(code_within(sources, i * stride + place)) * u64::from(coded(weights[i]));
+    for (i, weight) in weights.iter().enumerate() {
+        let code = code_within(sources, i * stride + place);
+        sum += u64::from(code.value) * u64::from(Code::of(*weight).value);
     }
     (sum % 65537) as u32
 }
@@ -50,6 +49,7 @@ fn sum_at(weights: &[u32], sources: &[u8], stride: usize, place: usize) -> u32
 pub(crate) fn combine_sums(weights: &[u32], sources: &[u8], stride: usize, out: &mut [u8])
     ensures { out.new ≡ over (combined gf65537 3 weights.now sources.now stride (length out.old / 3)) out.old }
 {
+    // by index: of what is written through chunks_exact_mut a proof knows only how long it is
     for j in 0..out.len() / 3 {
         put_le(out, j * 3, 3, sum_at(weights, sources, stride, j * 3));
     }

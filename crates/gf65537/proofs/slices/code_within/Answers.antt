@@ -8,4 +8,4 @@ pub returns : goal.returns
 returns c =
     let bs = c.args.sources.now in
     let read : c.from_le_bytes.result ≡ stored_at 3 bs c.args.at = omega (arith, c.from_le_bytes.ensures, stored_three bs c.args.at) in
-    record { value = c.coded.ensures.value ∙ ap (code 65537) read; small = c.coded.ensures.small }
+    c.of.ensures ∙ ap (code 65537) read
