@@ -5,6 +5,15 @@ ghost use Rattle.algebra.specs.Slices.{combined_at, combined};
 
 use base::{le_at, put_le};
 
+// A sum of slices of stored codes, each times its weight: there are as many slices as weights, and slice i begins at i times the
+// stride. A byte past the end of the sources counts as 0.
+#[derive(Clone, Copy)]
+pub struct WeightedSum<'a> {
+    pub weights: &'a [u32],
+    pub sources: &'a [u8],
+    pub stride: usize,
+}
+
 // A field over codes, the whole numbers below its size. Each operation answers a code, and reads an argument that is
 // not below the size as 0. W data bytes make one symbol, V bytes store one code, and NUMBER stands in what is stored.
 pub trait Field {
@@ -48,37 +57,31 @@ pub trait Field {
     fn inv(a: u32) -> u32
         ensures { result ≡ ops.inv a };
 
-    // One place of the sum of as many slices of stored codes as there are weights, each times its weight. Slice i begins
-    // at i times the stride; a byte past the end of the sources counts as 0.
-    fn combine_at(weights: &[u32], sources: &[u8], stride: usize, place: usize) -> u32
-        ensures { result ≡ combined_at ops stored weights.now sources.now stride place }
+    // One place of a weighted sum.
+    fn combine_at(sum: &WeightedSum<'_>, place: usize) -> u32
+        ensures { result ≡ combined_at ops stored sum.now.weights.now sum.now.sources.now sum.now.stride place }
     {
-        let mut sum = 0;
-        for (i, weight) in weights.iter().enumerate() {
-            let begin = i.saturating_mul(stride).saturating_add(place);
-            sum = Self::add(
-                sum,
-                Self::mul(le_at(sources, begin, Self::stored_width()), *weight),
+        let mut total = 0;
+        for (i, weight) in sum.weights.iter().enumerate() {
+            let begin = i.saturating_mul(sum.stride).saturating_add(place);
+            total = Self::add(
+                total,
+                Self::mul(le_at(sum.sources, begin, Self::stored_width()), *weight),
             );
         }
-        sum
+        total
     }
 
     // The same at each place of the output, which it overwrites, but for bytes at its end that are no whole place. Cutting
     // and joining spend their time here, so a field may do it in a faster way.
-    fn combine(weights: &[u32], sources: &[u8], stride: usize, out: &mut [u8])
-        ensures { out.new ≡ over (combined ops stored weights.now sources.now stride (length out.old / stored)) out.old }
+    fn combine(sum: &WeightedSum<'_>, out: &mut [u8])
+        ensures { out.new ≡ over (combined ops stored sum.now.weights.now sum.now.sources.now sum.now.stride (length out.old / stored)) out.old }
     {
         let width = Self::stored_width();
         // by index: of what is written through chunks_exact_mut a proof knows only how long it is
         for j in 0..out.len() / width {
             let place = j * width;
-            put_le(
-                out,
-                place,
-                width,
-                Self::combine_at(weights, sources, stride, place),
-            );
+            put_le(out, place, width, Self::combine_at(sum, place));
         }
     }
 

@@ -4,5 +4,5 @@
 pub mod field;
 pub mod interpolation;
 
-pub use crate::field::Field;
+pub use crate::field::{Field, WeightedSum};
 pub use crate::interpolation::{interpolate, one_polynomial, weight, weights};

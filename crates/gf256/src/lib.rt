@@ -9,7 +9,7 @@ ghost use Rattle.gf256.specs.Laws256.{gf256_laws, gf256_widths};
 
 use crate::slices::combine_bits;
 use crate::tables::{exponent, power_of_two};
-use algebra::Field;
+use algebra::{Field, WeightedSum};
 
 mod slices;
 mod tables;
@@ -93,7 +93,7 @@ impl Field for Gf256 {
         u32::from(inverse(coded(a)))
     }
 
-    fn combine(weights: &[u32], sources: &[u8], stride: usize, out: &mut [u8]) {
-        combine_bits(weights, sources, stride, out);
+    fn combine(sum: &WeightedSum<'_>, out: &mut [u8]) {
+        combine_bits(sum, out);
     }
 }

@@ -8,6 +8,8 @@ ghost use Rattle.gf256.specs.Gf256.{gf256};
 ghost use Rattle.gf256.specs.Slices.{doubled, added, bit_of, bits_added};
 
 use crate::coded;
+use algebra::WeightedSum;
+use base::holds_bytes;
 
 fn double(a: u8) -> u8
     ensures { result ≡ product 8 0x11d a 2 }
@@ -47,23 +49,24 @@ fn has_bit(weight: u32, bit: usize) -> bool
     (coded(weight) >> bit) % 2 == 1
 }
 
-fn add_bit(weights: &[u32], sources: &[u8], stride: usize, bit: usize, out: &mut [u8])
+fn add_bit(sum: &WeightedSum<'_>, bit: usize, out: &mut [u8])
     requires { bit < 8 }
-    ensures { out.new ≡ bits_added bit out.old weights.now sources.now stride (length weights.now) }
+    ensures { out.new ≡ bits_added bit out.old sum.now.weights.now sum.now.sources.now sum.now.stride (length sum.now.weights.now) }
 {
-    for (i, weight) in weights.iter().enumerate() {
+    for (i, weight) in sum.weights.iter().enumerate() {
         if has_bit(*weight, bit) {
-            add_from(out, sources, i.saturating_mul(stride));
+            add_from(out, sum.sources, i.saturating_mul(sum.stride));
         }
     }
 }
 
-pub(crate) fn combine_bits(weights: &[u32], sources: &[u8], stride: usize, out: &mut [u8])
-    ensures { out.new ≡ over (combined gf256 1 weights.now sources.now stride (length out.old / 1)) out.old }
+pub(crate) fn combine_bits(sum: &WeightedSum<'_>, out: &mut [u8])
+    ensures { out.new ≡ over (combined gf256 1 sum.now.weights.now sum.now.sources.now sum.now.stride (length out.old / 1)) out.old }
 {
+    holds_bytes(sum.sources);
     out.fill(0);
     for bit in (0..8usize).rev() {
         double_all(out);
-        add_bit(weights, sources, stride, bit, out);
+        add_bit(sum, bit, out);
     }
 }

@@ -7,7 +7,7 @@ ghost use Rattle.gf65537.specs.Gf65537.{gf65537, times};
 ghost use Rattle.gf65537.specs.Laws65537.{gf65537_laws, gf65537_widths};
 
 use crate::slices::combine_sums;
-use algebra::Field;
+use algebra::{Field, WeightedSum};
 
 mod slices;
 
@@ -131,7 +131,7 @@ impl Field for Gf65537 {
         Code::of(a).inverse().value
     }
 
-    fn combine(weights: &[u32], sources: &[u8], stride: usize, out: &mut [u8]) {
-        combine_sums(weights, sources, stride, out);
+    fn combine(sum: &WeightedSum<'_>, out: &mut [u8]) {
+        combine_sums(sum, out);
     }
 }

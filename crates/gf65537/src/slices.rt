@@ -7,7 +7,7 @@ ghost use Rattle.algebra.specs.Slices.{stored_at, combined_at, combined};
 ghost use Rattle.gf65537.specs.Gf65537.{gf65537};
 
 use crate::{Code, Gf65537};
-use algebra::Field;
+use algebra::{Field, WeightedSum};
 use base::put_le;
 
 fn code_within(sources: &[u8], at: usize) -> Code
@@ -17,40 +17,40 @@ fn code_within(sources: &[u8], at: usize) -> Code
     Code::of(u32::from_le_bytes([sources[at], sources[at + 1], sources[at + 2], 0]))
 }
 
-fn sum_within(weights: &[u32], sources: &[u8], stride: usize, place: usize) -> u32
-    requires few { length weights.now ≤ 16 }
-    requires inside { (length weights.now - 1) * stride + place + 3 ≤ length sources.now }
-    ensures { result ≡ combined_at gf65537 3 weights.now sources.now stride place }
+fn sum_within(sum: &WeightedSum<'_>, place: usize) -> u32
+    requires few { length sum.now.weights.now ≤ 16 }
+    requires inside { (length sum.now.weights.now - 1) * sum.now.stride + place + 3 ≤ length sum.now.sources.now }
+    ensures { result ≡ combined_at gf65537 3 sum.now.weights.now sum.now.sources.now sum.now.stride place }
 {
-    let mut sum = 0u64;
-    for (i, weight) in weights.iter().enumerate() {
-        let code = code_within(sources, i * stride + place);
-        sum += u64::from(code.value) * u64::from(Code::of(*weight).value);
+    let mut total = 0u64;
+    for (i, weight) in sum.weights.iter().enumerate() {
+        let code = code_within(sum.sources, i * sum.stride + place);
+        total += u64::from(code.value) * u64::from(Code::of(*weight).value);
     }
-    (sum % 65537) as u32
+    (total % 65537) as u32
 }
 
-fn sum_at(weights: &[u32], sources: &[u8], stride: usize, place: usize) -> u32
-    ensures { result ≡ combined_at gf65537 3 weights.now sources.now stride place }
+fn sum_at(sum: &WeightedSum<'_>, place: usize) -> u32
+    ensures { result ≡ combined_at gf65537 3 sum.now.weights.now sum.now.sources.now sum.now.stride place }
 {
-    let n = weights.len();
+    let n = sum.weights.len();
     if 1 <= n
         && n <= 16
-        && stride <= 65536
+        && sum.stride <= 65536
         && place <= 65536
-        && (n - 1) * stride + place + 3 <= sources.len()
+        && (n - 1) * sum.stride + place + 3 <= sum.sources.len()
     {
-        sum_within(weights, sources, stride, place)
+        sum_within(sum, place)
     } else {
-        Gf65537::combine_at(weights, sources, stride, place)
+        Gf65537::combine_at(sum, place)
     }
 }
 
-pub(crate) fn combine_sums(weights: &[u32], sources: &[u8], stride: usize, out: &mut [u8])
-    ensures { out.new ≡ over (combined gf65537 3 weights.now sources.now stride (length out.old / 3)) out.old }
+pub(crate) fn combine_sums(sum: &WeightedSum<'_>, out: &mut [u8])
+    ensures { out.new ≡ over (combined gf65537 3 sum.now.weights.now sum.now.sources.now sum.now.stride (length out.old / 3)) out.old }
 {
     // by index: of what is written through chunks_exact_mut a proof knows only how long it is
     for j in 0..out.len() / 3 {
-        put_le(out, j * 3, 3, sum_at(weights, sources, stride, j * 3));
+        put_le(out, j * 3, 3, sum_at(sum, j * 3));
     }
 }

@@ -4,4 +4,4 @@ use Rattle.gf256.proofs.Sums.{bits_from}
 use Rattle.gf256.proofs.slices.combine_bits.Given as goal
 
 abbrev pub invariant-loop-bit : goal.invariant-loop-bit
-invariant-loop-bit l = l.out ≡ map (bits_from l.weights l.sources l.stride l.bit (length l.weights)) (range_with_len 0 (length l.initial.out))
+invariant-loop-bit l = l.out ≡ map (bits_from l.sum.weights.now l.sum.sources.now l.sum.stride l.bit (length l.sum.weights.now)) (range_with_len 0 (length l.initial.out))

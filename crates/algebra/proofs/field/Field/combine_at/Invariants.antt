@@ -6,4 +6,4 @@ use Rattle.algebra.proofs.field.Field.combine_at.Given as goal
 abbrev pub invariant-loop-i : goal.invariant-loop-i
 invariant-loop-i g l =
     let f = g.Self.Field.ops in
-    l.sum ≡ sum_to f l.i (λ i. f.mul (stored_at g.Self.Field.stored l.sources (i * l.stride + l.place)) (at l.weights i))
+    l.total ≡ sum_to f l.i (λ i. f.mul (stored_at g.Self.Field.stored l.sum.sources.now (i * l.sum.stride + l.place)) (at l.sum.weights.now i))
