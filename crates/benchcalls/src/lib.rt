@@ -10,17 +10,27 @@ ghost use Rattle.erasure.specs.Formula.{spread, record_from};
 ghost use Rattle.erasure.specs.Slices.{spread_answer, cut_answer};
 ghost use Rattle.benchcalls.specs.Calls.{length_of};
 
-use erasure::{Plan, SliceFault, cut_spread, spread};
+use capi::answers::{CallFault, FieldKind};
+use erasure::{Plan, cut_spread, spread};
 use gf256::Gf256;
 use gf65537::Gf65537;
 
-fn length_of(answer: Result<usize, SliceFault>) -> usize
-    ensures { result ≡ length_of answer }
+fn spread_by(
+    field: u32,
+    k: usize,
+    n: usize,
+    package: &[u8],
+    slices: &mut [u8],
+) -> Result<usize, CallFault>
+    ensures answers { length_of result ≡ by_field field k n 0 (λ C. length_of (spread_answer C (length «package».now) (length slices.old))) }
+    ensures fills { slices.new ≡ by_field field k n slices.old (λ C. leaves (spread_answer C (length «package».now) (length slices.old)) slices.old (over (spread C «package».now) slices.old)) }
 {
-    match answer {
-        Ok(length) => length,
-        Err(_) => 0,
-    }
+    let plan = Plan::new(k, n)?;
+    let length = match FieldKind::try_from(field)? {
+        FieldKind::Gf256 => spread::<Gf256>(&plan, package, slices)?,
+        FieldKind::Gf65537 => spread::<Gf65537>(&plan, package, slices)?,
+    };
+    Ok(length)
 }
 
 // Spreads a package into slices.
@@ -35,11 +45,27 @@ pub extern "C" fn bench_spread(
     ensures answers { result ≡ by_field field k n 0 (λ C. length_of (spread_answer C (length «package».now) (length slices.old))) }
     ensures fills { slices.new ≡ by_field field k n slices.old (λ C. leaves (spread_answer C (length «package».now) (length slices.old)) slices.old (over (spread C «package».now) slices.old)) }
 {
-    match (field, Plan::new(k, n)) {
-        (1, Ok(plan)) => length_of(spread::<Gf256>(&plan, package, slices)),
-        (2, Ok(plan)) => length_of(spread::<Gf65537>(&plan, package, slices)),
-        _ => 0,
-    }
+    spread_by(field, k, n, package, slices).unwrap_or(0)
+}
+
+fn cut_by(
+    field: u32,
+    k: usize,
+    n: usize,
+    bytes: usize,
+    slices: &[u8],
+    cabinet: usize,
+    out: &mut [u8],
+) -> Result<usize, CallFault>
+    ensures answers { length_of result ≡ by_field field k n 0 (λ C. length_of (cut_answer C n bytes cabinet 1 (length out.old))) }
+    ensures fills { out.new ≡ by_field field k n out.old (λ C. leaves (cut_answer C n bytes cabinet 1 (length out.old)) out.old (over (record_from C bytes slices.now cabinet 1) out.old)) }
+{
+    let plan = Plan::new(k, n)?;
+    let length = match FieldKind::try_from(field)? {
+        FieldKind::Gf256 => cut_spread::<Gf256>(&plan, bytes, slices, cabinet, 1, out)?,
+        FieldKind::Gf65537 => cut_spread::<Gf65537>(&plan, bytes, slices, cabinet, 1, out)?,
+    };
+    Ok(length)
 }
 
 // Cuts a cabinet's record of issue 1 from slices.
@@ -56,9 +82,5 @@ pub extern "C" fn bench_cut(
     ensures answers { result ≡ by_field field k n 0 (λ C. length_of (cut_answer C n bytes cabinet 1 (length out.old))) }
     ensures fills { out.new ≡ by_field field k n out.old (λ C. leaves (cut_answer C n bytes cabinet 1 (length out.old)) out.old (over (record_from C bytes slices.now cabinet 1) out.old)) }
 {
-    match (field, Plan::new(k, n)) {
-        (1, Ok(plan)) => length_of(cut_spread::<Gf256>(&plan, bytes, slices, cabinet, 1, out)),
-        (2, Ok(plan)) => length_of(cut_spread::<Gf65537>(&plan, bytes, slices, cabinet, 1, out)),
-        _ => 0,
-    }
+    cut_by(field, k, n, bytes, slices, cabinet, out).unwrap_or(0)
 }

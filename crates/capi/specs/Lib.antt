@@ -1,3 +1,4 @@
 pub mod Calls
+pub mod Faults
 pub mod Sealing
 pub mod Slicing

@@ -2,7 +2,6 @@
 // them, and include/runnelpan.h declares them.
 #![tactic(auto)]
 
-mod answers;
-mod numbers;
+pub mod answers;
 pub mod sealing;
 pub mod slicing;

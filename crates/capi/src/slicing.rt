@@ -1,22 +1,36 @@
 // Cutting and joining for C.
 ghost use Rattle.std.specs.Prelude.{◌≡◌, ◌^◌, ◌<◌, length, IfOk};
-ghost use Rattle.capi.specs.Slicing.{slice_signed, cut_call, cut_leaves, CutsExactly, join_call, join_leaves, JoinsExactly};
+ghost use Rattle.capi.specs.Calls.{signed};
+ghost use Rattle.capi.specs.Faults.{call_number};
+ghost use Rattle.capi.specs.Slicing.{cut_call, cut_leaves, CutsExactly, join_call, join_leaves, JoinsExactly};
 
-use crate::numbers::{GF_256, GF_65537, UNKNOWN};
-use erasure::{Plan, SliceFault, cut};
+use crate::answers::{CallFault, FieldKind, in_one_number};
+use erasure::{Plan, cut};
 use gf256::Gf256;
 use gf65537::Gf65537;
 use recovery::join;
 
-// A length, or a refusal's number negated.
-fn in_one_number(answer: Result<usize, SliceFault>) -> i64
-    requires { IfOk answer (λ n. n < 2 ^ 63) }
-    ensures { result ≡ slice_signed answer }
+fn cut_by(
+    field: u32,
+    k: u32,
+    n: u32,
+    package: &[u8],
+    cabinet: u32,
+    issue: u16,
+    out: &mut [u8],
+) -> Result<usize, CallFault>
+    ensures answers { signed call_number result ≡ cut_call field k n (length «package».now) cabinet issue (length out.old) }
+    ensures fills { out.new ≡ cut_leaves field k n «package».now cabinet issue out.old }
+    ensures exact { CutsExactly field k n «package».now cabinet issue (length out.old) }
+    ensures small { IfOk result (λ n. n < 2 ^ 63) }
 {
-    match answer {
-        Ok(length) => length as i64,
-        Err(fault) => -i64::from(fault.number()),
-    }
+    let plan = Plan::new(k as usize, n as usize)?;
+    let cabinet = cabinet as usize;
+    let length = match FieldKind::try_from(field)? {
+        FieldKind::Gf256 => cut::<Gf256>(&plan, package, cabinet, issue, out)?,
+        FieldKind::Gf65537 => cut::<Gf65537>(&plan, package, cabinet, issue, out)?,
+    };
+    Ok(length)
 }
 
 // Cuts the record of a cabinet from a package, into the front of the output, and answers the record's length. The rest of the
@@ -35,12 +49,29 @@ pub fn runnelpan_cut(
     ensures fills { out.new ≡ cut_leaves field k n «package».now cabinet issue out.old }
     ensures exact { CutsExactly field k n «package».now cabinet issue (length out.old) }
 {
-    let cabinet = cabinet as usize;
-    match (field, Plan::new(k as usize, n as usize)) {
-        (GF_256, Ok(plan)) => in_one_number(cut::<Gf256>(&plan, package, cabinet, issue, out)),
-        (GF_65537, Ok(plan)) => in_one_number(cut::<Gf65537>(&plan, package, cabinet, issue, out)),
-        _ => UNKNOWN,
-    }
+    in_one_number(cut_by(field, k, n, package, cabinet, issue, out))
+}
+
+fn join_by(
+    field: u32,
+    k: u32,
+    n: u32,
+    bytes: usize,
+    positions: &[u8],
+    records: &[u8],
+    out: &mut [u8],
+) -> Result<usize, CallFault>
+    ensures answers { signed call_number result ≡ join_call field k n bytes positions.now records.now (length out.old) }
+    ensures fills { out.new ≡ join_leaves field k n bytes positions.now records.now out.old }
+    ensures exact { JoinsExactly field k n bytes positions.now records.now }
+    ensures small { IfOk result (λ n. n < 2 ^ 63) }
+{
+    let plan = Plan::new(k as usize, n as usize)?;
+    let length = match FieldKind::try_from(field)? {
+        FieldKind::Gf256 => join::<Gf256>(&plan, bytes, positions, records, out)?,
+        FieldKind::Gf65537 => join::<Gf65537>(&plan, bytes, positions, records, out)?,
+    };
+    Ok(length)
 }
 
 // Joins a package of so many bytes from k records end to end, those of the cabinets at the positions, into the front of the
@@ -60,11 +91,5 @@ pub fn runnelpan_join(
     ensures fills { out.new ≡ join_leaves field k n bytes positions.now records.now out.old }
     ensures exact { JoinsExactly field k n bytes positions.now records.now }
 {
-    match (field, Plan::new(k as usize, n as usize)) {
-        (GF_256, Ok(plan)) => in_one_number(join::<Gf256>(&plan, bytes, positions, records, out)),
-        (GF_65537, Ok(plan)) => in_one_number(join::<Gf65537>(
-            &plan, bytes, positions, records, out,
-        )),
-        _ => UNKNOWN,
-    }
+    in_one_number(join_by(field, k, n, bytes, positions, records, out))
 }
