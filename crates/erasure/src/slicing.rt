@@ -21,6 +21,7 @@ fn spread_slice<F: Field>(plan: &Plan, package: &[u8], i: usize, out: &mut [u8])
     let k = plan.needed();
     let width = F::data_width();
     let stored = F::stored_width();
+    // by places: after a loop over chunks_exact_mut a proof knows nothing of what stands in the chunks
     for j in 0..out.len() / stored {
         put_le(
             out,
@@ -37,6 +38,7 @@ fn spread_slices<F: Field>(plan: &Plan, package: &[u8], size: usize, slices: &mu
     requires whole { size ≡ columns (coding_of F.Field plan.now) (length «package».now) * F.stored }
     ensures { slices.new ≡ over (spread (coding_of F.Field plan.now) «package».now) slices.old }
 {
+    // by places, as above
     for i in 0..plan.needed() {
         spread_slice::<F>(plan, package, i, &mut slices[i * size..(i + 1) * size]);
     }

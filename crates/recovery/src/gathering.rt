@@ -15,10 +15,11 @@ use base::{le_at, put_le};
 fn symbol_limit<F: Field>(within: bool) -> u32
     ensures { result ≡ (if within then 256 ^ F.width else 1) }
 {
-    if !within {
-        return 1;
+    if within {
+        1 << (8 * F::data_width())
+    } else {
+        1
     }
-    if F::data_width() == 1 { 256 } else { 65536 }
 }
 
 fn symbol_fits<F: Field>(slices: &[u8], place: usize, within: bool) -> bool
@@ -56,6 +57,7 @@ impl<F: Field> Checked<'_, F> {
         let width = F::data_width();
         let stored = F::stored_width();
         let size = self.slice_length();
+        // by places: after a loop over chunks_exact_mut a proof knows nothing of what stands in the chunks
         for j in 0..self.count {
             for i in 0..k {
                 // a symbol past the end of the output is not written

@@ -36,6 +36,7 @@ impl<F: Field> Checked<'_, F> {
         let mut slices = [0u8; 6400];
         let size = self.slice_length();
         let sources = self.sources();
+        // by places: after a loop over chunks_exact_mut a proof knows nothing of what stands in the chunks
         for i in 0..self.plan.needed() {
             sources.symbols_at::<F>(self.plan, i as u32, &mut slices[i * size..(i + 1) * size]);
         }

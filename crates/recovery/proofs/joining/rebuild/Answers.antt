@@ -1,25 +1,21 @@
-use Rattle.std.proofs.Common.{ℕ, length, Result, sym, ap, ◌∙◌, arith}
+use Rattle.std.proofs.Common.{ℕ, length, Result, sym, ap, ◌∙◌}
 use Rattle.std.proofs.lemmas.Result.{err_from_is_err_and}
 use Rattle.base.specs.Answers.{pass}
 use Rattle.erasure.specs.declared.fault.SliceFault.{SliceFault}
 use Rattle.erasure.specs.Whole.{coding_of}
 use Rattle.recovery.specs.Answers.{rebuild_rest}
-use Rattle.recovery.proofs.Restoring.{rebuilds}
+use Rattle.recovery.proofs.Restoring.{plan_rebuilds}
 use Rattle.recovery.proofs.joining.rebuild.Goals as goal
 
 pub returns-clause-exact : goal.returns-clause-exact
 returns-clause-exact g c =
     let a = c.args in
-    let plan = a.plan.now.fits in
-    rebuilds (coding_of g.F.Field a.plan.now) g.met.F.Field.lawful g.met.F.Field.widths a.plan.now.n a.bytes a.positions.now a.records.now (λ i. (c.type_inv.records i).fits)
-    (omega (arith, plan)) (omega (arith, plan)) (omega (arith, plan)) a.cabinet
+    plan_rebuilds g.F.Field g.met.F.Field.lawful g.met.F.Field.widths a.plan.now a.bytes a.positions.now a.records.now (λ i. (c.type_inv.records i).fits) a.cabinet
 
 pub returns-in_err-checked-clause-exact : goal.returns-in_err-checked-clause-exact
 returns-in_err-checked-clause-exact g c =
     let a = c.args in
-    let plan = a.plan.now.fits in
-    rebuilds (coding_of g.F.Field a.plan.now) g.met.F.Field.lawful g.met.F.Field.widths a.plan.now.n a.bytes a.positions.now a.records.now (λ i. (c.type_inv.records i).fits)
-    (omega (arith, plan)) (omega (arith, plan)) (omega (arith, plan)) a.cabinet
+    plan_rebuilds g.F.Field g.met.F.Field.lawful g.met.F.Field.widths a.plan.now a.bytes a.positions.now a.records.now (λ i. (c.type_inv.records i).fits) a.cabinet
 
 pub returns-in_err-checked-clause-answers : goal.returns-in_err-checked-clause-answers
 returns-in_err-checked-clause-answers g c =
