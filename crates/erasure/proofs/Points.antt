@@ -1,6 +1,7 @@
 -- The weights of the symbols at any points, and the record that is made with them. Assumes nothing.
-use Rattle.std.proofs.Common.{◌≡◌, ℕ, ◌+◌, ◌-◌, ◌*◌, ◌/◌, ◌<◌, ◌≤◌, List, ◌++◌, map, length, take, drop, sym, refl, ap, ◌∙◌, zero-add, div-mul-le_self, mul-div_cancel, arith}
-use native.Mathlib.Nat.{sub-zero}
+use denote.Param.Members.{Mut, Called}
+use Rattle.std.proofs.Common.{◌≡◌, ℕ, zero, suc, ◌+◌, ◌-◌, ◌*◌, ◌/◌, ◌<◌, ◌≤◌, List, ◌++◌, map, length, get_or, take, drop, sym, refl, ap, ◌∙◌, subst, ⊎_elim, eq-or-lt_of_le, zero-add, div-mul-le_self, mul-div_cancel, arith}
+use Rattle.std.specs.Array.{IsFromFnResultFrom}
 use Rattle.std.specs.List.{range_with_len}
 use Rattle.std.proofs.lemmas.List.FromFn.{fill_by_all, get_or-map-range_with_len, length-map-range_with_len, take-map-range_with_len}
 use Rattle.std.proofs.lemmas.List.{get_or-map, length-map, take_all, take_at, drop_at, length-append, length-drop, length-take}
@@ -16,6 +17,15 @@ use Rattle.algebra.proofs.ThroughPoints.{weight_same}
 use Rattle.erasure.specs.Records.{Coding, columns, head, record_length}
 use Rattle.erasure.specs.Formula.{weights_for, record_from, point_weights, combined_record}
 use Rattle.erasure.proofs.Weighing.{laid, head_six, length-combined}
+
+-- what from_fn makes with calls that each give h of their number
+pub made_at : {F : Type 0} (g : Mut F (ℕ × Unit {0}) ℕ) (f : F) (h : ℕ → ℕ) → ((i y : ℕ) (q : F) → Called g f (i, tt) y q → (q ≡ f) × (y ≡ h i)) →
+    (ys : List ℕ) (n i : ℕ) → IsFromFnResultFrom g f ys i n → (k : ℕ) → i ≤ k → k < i + n → get_or ys k 0 ≡ h k
+made_at g f h call ys zero i each k low high = absurd (omega arith)
+made_at g f h call ys (suc n) i (q, y, is, called, rest) k low high =
+    let this = call i y q called in
+    ⊎_elim (λ e. ap (λ m. get_or ys m 0) (sym e) ∙ is.1 0 ∙ this.1 ∙ ap h e)
+    (λ l. made_at g f h call ys n (i + 1) (subst (λ q. IsFromFnResultFrom g q ys (i + 1) n) this.0 rest) k (omega arith) (omega arith)) (eq-or-lt_of_le low)
 
 module _ (C : Coding) (x : ℕ) where
   pub weights_of : (ps last rest part : List ℕ) → length ps ≡ C.needed → length part ≡ C.needed →
@@ -39,11 +49,11 @@ module _ (C : Coding) (x : ℕ) where
       let k = C.needed in same_map _ _ k (λ i h. weight_same C.ops L k ps qs (ps i) x e ∙ ap (λ p. weight C.ops k qs p x) (e i h))
 
   -- of sixteen points, the first k
-  pub first_points : Laws C.ops → C.needed ≤ 16 → (g : ℕ → ℕ) (points : List ℕ) → points ≡ map g (range_with_len 0 16) → point_weights C (at (take (C.needed - 0) points)) x ≡ point_weights C g x
-  first_points L few g points e =
-      let k = C.needed in
-      let front : take (k - 0) points ≡ map g (range_with_len 0 k) = ap (λ n. take n points) (sub-zero k) ∙ ap (take k) e ∙ take-map-range_with_len g 0 16 k few in
-      same_weights L (at (take (k - 0) points)) g (λ i h. ap (λ xs. at xs i) front ∙ get_or-map-range_with_len g 0 k i i 0 h (zero-add i))
+  pub first_points : Laws C.ops → C.needed ≤ 16 → (g : ℕ → ℕ) (k : ℕ) (points : List ℕ) → k ≡ C.needed → points ≡ map g (range_with_len 0 16) →
+      point_weights C (at (take k points)) x ≡ point_weights C g x
+  first_points L few g k points ek e =
+      let front : take k points ≡ map g (range_with_len 0 C.needed) = ap (λ n. take n points) ek ∙ ap (take C.needed) e ∙ take-map-range_with_len g 0 16 C.needed few in
+      same_weights L (at (take k points)) g (λ i h. ap (λ xs. at xs i) front ∙ get_or-map-range_with_len g 0 C.needed i i 0 h (zero-add i))
 
 -- what is left of an output after its head
 rest_is : (front out : List ℕ) → length front ≡ 6 → 6 ≤ length out → take (length (front ++ post_of 0 6 out) - 6) (drop 6 (front ++ post_of 0 6 out)) ≡ drop 6 out
@@ -70,38 +80,29 @@ record_written f v ws slices front out body stride ef low e =
     ∙ length-drop 6 out in
     laid front out body (length out - 6) ef (omega arith) size ∙ ap (λ xs. front ++ xs) whole
 
--- a record in the front of an output that has room for it
-front_laid : (C : Coding) (bytes c issue : ℕ) (points : ℕ → ℕ) (slices out last : List ℕ) (whole stride : ℕ) → whole ≡ record_length C bytes →
-    last ≡ combined_record C bytes points slices stride c issue → last ++ post_of 0 (whole - 0) out ≡ over (combined_record C bytes points slices stride c issue) out
-unfolding combined_record
-front_laid C bytes c issue points slices out last whole stride ew is =
-    let cols = columns C bytes in
-    let front = head (record_length C bytes) C.number issue in
-    let body = combined C.ops C.stored (point_weights C points c) slices stride cols in
-    let size : length last ≡ whole =
-    ap length is ∙ length-append front body ∙ ap (λ n. n + length body) (head_six (record_length C bytes) C.number issue)
-    ∙ ap (λ n. 6 + n) (length-combined C.ops C.stored (point_weights C points c) slices stride cols) ∙ sym ew in
-    ap (λ n. last ++ drop n out) (sub-zero whole ∙ sym size) ∙ ap (λ xs. over xs out) is
-
--- the record in the front of an output, by the code's own name of its length
+-- a record in the front of an output that has room for it, by the code's own name of its length
 pub combined_laid : (C : Coding) (bytes c issue : ℕ) (points : ℕ → ℕ) (slices out last : List ℕ) (whole stride : ℕ) → whole ≡ record_length C bytes → 0 < C.stored → whole ≤ length out →
-    last ≡ head (length (take (whole - 0) out)) C.number issue
-    ++ over (combined C.ops C.stored (point_weights C points c) slices stride ((length (take (whole - 0) out) - 6) / C.stored)) (drop 6 (take (whole - 0) out)) →
-    last ++ post_of 0 (whole - 0) out ≡ over (combined_record C bytes points slices stride c issue) out
+    last ≡ head (length (take whole out)) C.number issue
+    ++ over (combined C.ops C.stored (point_weights C points c) slices stride ((length (take whole out) - 6) / C.stored)) (drop 6 (take whole out)) →
+    last ++ post_of 0 whole out ≡ over (combined_record C bytes points slices stride c issue) out
 unfolding combined_record
 combined_laid C bytes c issue points slices out last whole stride ew pos room e =
     let v = C.stored in
-    let own = take (whole - 0) out in
+    let own = take whole out in
     let cols = columns C bytes in
     let body = combined C.ops v (point_weights C points c) slices stride in
     let front = head (record_length C bytes) C.number issue in
-    let long : length own ≡ record_length C bytes = length-take (whole - 0) out ∙ omega arith in
+    let wide : (n : ℕ) → length (body n) ≡ n * v = length-combined C.ops v (point_weights C points c) slices stride in
+    let long : length own ≡ record_length C bytes = length-take whole out ∙ omega arith in
     let count : (length own - 6) / v ≡ cols = ap (λ n. (n - 6) / v) long ∙ ap (λ n. n / v) (omega arith) ∙ mul-div_cancel cols pos in
     let is : last ≡ front ++ body cols =
     e ∙ ap (λ n. head n C.number issue ++ over (body ((length own - 6) / v)) (drop 6 own)) long
     ∙ ap (λ n. front ++ over (body n) (drop 6 own)) count
-    ∙ ap (λ xs. front ++ xs) (over_whole (body cols) (drop 6 own) (omega (arith, length-combined C.ops v (point_weights C points c) slices stride cols, length-drop 6 own, long))) in
-    front_laid C bytes c issue points slices out last whole stride ew is
+    ∙ ap (λ xs. front ++ xs) (over_whole (body cols) (drop 6 own) (omega (arith, wide cols, length-drop 6 own, long))) in
+    let size : length last ≡ whole =
+    ap length is ∙ length-append front (body cols) ∙ ap (λ n. n + length (body cols)) (head_six (record_length C bytes) C.number issue)
+    ∙ ap (λ n. 6 + n) (wide cols) ∙ sym ew in
+    ap (λ n. last ++ drop n out) (sym size) ∙ ap (λ xs. over xs out) is
 
 -- the record from a package's own slices is the one from the slices of the symbols at 0 to k - 1
 pub own_slices : (C : Coding) (bytes : ℕ) (slices : List ℕ) (c issue : ℕ) →
@@ -109,16 +110,10 @@ pub own_slices : (C : Coding) (bytes : ℕ) (slices : List ℕ) (c issue : ℕ) 
 unfolding record_from combined_record weights_for point_weights
 own_slices C bytes slices c issue = refl
 
--- and in the front of an output, by the code's own names of the columns and the width
-pub record_laid : (C : Coding) (bytes c issue : ℕ) (slices out last : List ℕ) (m width : ℕ) → m ≡ columns C bytes → width ≡ C.stored → 6 + m * width ≤ length out →
-    last ≡ head (length (take (6 + m * width - 0) out)) C.number issue ++ combined C.ops C.stored (weights_for C c) slices (m * C.stored) m →
-    last ++ post_of 0 (6 + m * width - 0) out ≡ over (record_from C bytes slices c issue) out
-unfolding record_from
-record_laid C bytes c issue slices out last m width em ew room e =
-    let whole : 6 + m * width ≡ record_length C bytes = ap (λ n. 6 + m * n) ew ∙ ap (λ n. 6 + n * C.stored) em in
-    let long : length (take (6 + m * width - 0) out) ≡ record_length C bytes = length-take (6 + m * width - 0) out ∙ omega arith in
-    let same = own_slices C bytes slices c issue in
-    let is : last ≡ record_from C bytes slices c issue =
-    e ∙ ap (λ n. head n C.number issue ++ combined C.ops C.stored (weights_for C c) slices (m * C.stored) m) long
-    ∙ ap (λ n. head (record_length C bytes) C.number issue ++ combined C.ops C.stored (weights_for C c) slices (n * C.stored) n) em in
-    front_laid C bytes c issue (λ i. i) slices out last (6 + m * width) (columns C bytes * C.stored) whole (is ∙ same) ∙ ap (λ xs. over xs out) (sym same)
+-- and so is the one that is cut from them
+pub own_cut : (C : Coding) → Laws C.ops → C.needed ≤ 16 → (bytes : ℕ) (slices : List ℕ) (c issue stride : ℕ) (points : ℕ → ℕ) → stride ≡ columns C bytes * C.stored →
+    ((i : ℕ) → i < C.needed → points i ≡ i) → combined_record C bytes points slices stride c issue ≡ record_from C bytes slices c issue
+unfolding combined_record
+own_cut C L few bytes slices c issue stride points es own =
+    let made : List ℕ → ℕ → List ℕ = λ ws s. head (record_length C bytes) C.number issue ++ combined C.ops C.stored ws slices s (columns C bytes) in
+    ap (λ ws. made ws stride) (same_weights C c L points (λ i. i) own) ∙ ap (made (point_weights C (λ i. i) c)) es ∙ sym (own_slices C bytes slices c issue)

@@ -1,6 +1,8 @@
 -- A package's symbols, as the code reads them. Assumes nothing.
-use Rattle.std.proofs.Common.{◌≡◌, ℕ, zero, suc, ◌+◌, ◌-◌, ◌*◌, ◌/◌, ◌≤◌, min, List, ap, ◌∙◌, subst, mul-le-mul_right, mul_assoc, mul_comm, one-mul, mul-add, div-mul-le_self, div-one, arith}
+use Rattle.std.proofs.Common.{◌≡◌, ℕ, zero, suc, ◌+◌, ◌-◌, ◌*◌, ◌/◌, ◌%◌, ◌≤◌, min, List, sym, ap, ◌∙◌, subst, mul-le-mul_right, mul_assoc, mul_comm, add-mul, one-mul, mul-add, div-mul-le_self, div-one, arith}
+use native.Mathlib.Nat.{div-eq_of_lt-le}
 use Rattle.std.proofs.lemmas.Nat.{mul-le}
+use Rattle.std.proofs.lemmas.Grind.{div_ceil_times}
 use Rattle.base.specs.Bytes.{le_value, part}
 use Rattle.algebra.specs.Fields.{Ops, Widths}
 use Rattle.erasure.specs.Records.{coding, columns, record_length}
@@ -8,6 +10,13 @@ use Rattle.erasure.specs.Records.{coding, columns, record_length}
 -- one slice takes no more than all of them
 pub one_slice : (k size most : ℕ) → 1 ≤ k → k * size ≤ most → size ≤ most
 one_slice k size most h l = omega (arith, mul-le-mul_right size h, one-mul size)
+
+-- rounding up, as the code does it and as the definition does
+pub ceil_is : (s k : ℕ) → 1 ≤ k → s / k + min 1 (s % k) ≡ (s + (k - 1)) / k
+ceil_is s k low =
+    let q = s / k + min 1 (s % k) in
+    let t = div_ceil_times s k low in
+    sym (div-eq_of_lt-le k (omega (arith, t.1)) (omega (arith, t.0, add-mul q 1 k, one-mul k)))
 
 module _ (f : Ops) (w v number : ℕ) (W : Widths f w v number) where
   pub read_symbol : (pkg : List ℕ) (i width read : ℕ) → width ≡ w → read ≡ le_value (part pkg (i * width) (min width 4)) → read ≡ le_value (part pkg (i * w) w)

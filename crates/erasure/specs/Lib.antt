@@ -1,3 +1,4 @@
 pub mod Records
 pub mod Formula
 pub mod Slices
+pub mod Whole

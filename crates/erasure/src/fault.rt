@@ -4,23 +4,23 @@ ghost use Rattle.erasure.specs.Slices.{slice_number, fault_of};
 
 use std::fmt;
 
-// Why a package is not cut, or records are not joined.
+// Why a package is not cut, or records are not joined, each cause with its number.
 #[derive(Clone, Copy, PartialEq, Eq, Debug)]
 pub enum SliceCause {
     // the cabinet is not below the number of cabinets fitted
-    NoCabinet,
+    NoCabinet = 9,
     // there are not k differing positions of fitted cabinets, with a record each of the due length, number and one issue
-    RecordsMisfit,
+    RecordsMisfit = 11,
     // a stored number is no code, or what is joined is no package
-    SymbolMisfit,
+    SymbolMisfit = 12,
     // no plan: not 1 ≤ k ≤ n ≤ 16
-    PlanMisfit,
+    PlanMisfit = 13,
     // no package has that length: it is no multiple of 16, below 48 or above 4,128
-    PackageMisfit,
+    PackageMisfit = 16,
     // issue 0 is none
-    IssueZero,
+    IssueZero = 20,
     // the output is shorter than what is to be written
-    OutputShort,
+    OutputShort = 23,
 }
 
 // A refusal: why, and the cabinet that the call named, if any.
@@ -35,15 +35,7 @@ impl SliceFault {
     pub fn number(self) -> u16
         ensures { result ≡ slice_number self.cause }
     {
-        match self.cause {
-            SliceCause::NoCabinet => 9,
-            SliceCause::RecordsMisfit => 11,
-            SliceCause::SymbolMisfit => 12,
-            SliceCause::PlanMisfit => 13,
-            SliceCause::PackageMisfit => 16,
-            SliceCause::IssueZero => 20,
-            SliceCause::OutputShort => 23,
-        }
+        self.cause as u16
     }
 
     // The layer that refuses.
@@ -61,11 +53,9 @@ pub fn refused<T>(cause: SliceCause, cabinet: Option<usize>) -> Result<T, SliceF
     Err(SliceFault { cause, cabinet })
 }
 
-// One sentence: the number, the reason, and the cabinet that the call named.
-impl fmt::Display for SliceFault {
+impl fmt::Display for SliceCause {
     fn fmt<W: fmt::Write>(&self, f: &mut fmt::Formatter<W>) -> fmt::Result {
-        let number = self.number();
-        let reason = match self.cause {
+        f.write_str(match self {
             SliceCause::NoCabinet => "no such cabinet is fitted",
             SliceCause::RecordsMisfit => "these are not k records of one package",
             SliceCause::SymbolMisfit => "a stored number is no symbol of a package",
@@ -73,10 +63,18 @@ impl fmt::Display for SliceFault {
             SliceCause::PackageMisfit => "no package has that length",
             SliceCause::IssueZero => "issue 0 is none",
             SliceCause::OutputShort => "the output is too short",
-        };
+        })
+    }
+}
+
+// One sentence: the number, the cabinet that the call named, and the reason.
+impl fmt::Display for SliceFault {
+    fn fmt<W: fmt::Write>(&self, f: &mut fmt::Formatter<W>) -> fmt::Result {
+        let number = self.number();
+        let cause = self.cause;
         match self.cabinet {
-            Some(cabinet) => write!(f, "refused {number}, cabinet {cabinet}: {reason}"),
-            None => write!(f, "refused {number}: {reason}"),
+            Some(cabinet) => write!(f, "refused {number}, cabinet {cabinet}: {cause}"),
+            None => write!(f, "refused {number}: {cause}"),
         }
     }
 }

@@ -17,6 +17,7 @@ pub struct Head {
     pub issue: u16,
 }
 
+// A method each way, as u16 has to_le_bytes, and no From, which would not say how the numbers are laid out.
 impl Head {
     pub fn to_bytes(self) -> [u8; 6]
         ensures { result ≡ head self.whole self.number self.issue }

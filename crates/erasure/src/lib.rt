@@ -5,11 +5,14 @@ mod combining;
 mod cutting;
 pub mod fault;
 pub mod head;
+mod lengths;
 pub mod plan;
-mod records;
+mod slicing;
 
-pub use crate::combining::{cut_from, record_length, symbols_at};
-pub use crate::cutting::{cut, cut_spread, spread};
+pub use crate::combining::{Sources, cut_from};
+pub use crate::cutting::{cut, cut_spread};
 pub use crate::fault::{SliceCause, SliceFault, refused};
 pub use crate::head::Head;
+pub use crate::lengths::record_length;
 pub use crate::plan::Plan;
+pub use crate::slicing::spread;

@@ -2,7 +2,7 @@ ghost use Rattle.std.specs.Prelude.{◌≡◌, ◌≤◌, true, false, None, Mat
 ghost use Rattle.erasure.specs.declared.fault.SliceCause.TheVariants.{PlanMisfit};
 ghost use Rattle.erasure.specs.Slices.{plan_fits, fault_of};
 
-use crate::fault::{SliceCause, SliceFault};
+use crate::fault::{SliceCause, SliceFault, refused};
 
 // How a package is cut: into n records, one to a cabinet, of which any k restore it. There is no plan but 1 ≤ k ≤ n ≤ 16.
 #[derive(Clone, Copy)]
@@ -20,10 +20,7 @@ impl Plan {
         if 1 <= k && k <= n && n <= 16 {
             Ok(Plan { k, n })
         } else {
-            Err(SliceFault {
-                cause: SliceCause::PlanMisfit,
-                cabinet: None,
-            })
+            refused(SliceCause::PlanMisfit, None)
         }
     }
 

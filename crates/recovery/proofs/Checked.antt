@@ -1,50 +1,28 @@
 -- What records that were checked are, and what is worked out from them. Assumes nothing.
-use Rattle.std.proofs.Common.{◌≡◌, ℕ, zero, suc, ◌+◌, ◌-◌, ◌*◌, ◌/◌, ◌%◌, ◌^◌, ◌<◌, ◌≤◌, Bool, true, false, cond, not, ◌&&◌, eqb, ltb, List, [], ◌++◌, length, take, drop, Ok, Err, Option, Result, sym, ap, ◌∙◌, subst, inl, inr, ⊎_elim, lt_of_lt_of_le, mul-le-mul_right, mod-lt, add-mul, one-mul, div-add-mod', div-mul-le_self, div-one, arith}
+use Rattle.std.proofs.Common.{◌≡◌, ℕ, zero, suc, ◌+◌, ◌-◌, ◌*◌, ◌/◌, ◌%◌, ◌^◌, ◌<◌, ◌≤◌, Bool, true, false, cond, not, ◌&&◌, eqb, ltb, List, [], ◌++◌, length, take, drop, replicate, sym, ap, ◌∙◌, subst, ⊎_elim, lt_of_lt_of_le, mul-le-mul_right, mod-lt, add-mul, one-mul, div-add-mod', div-mul-le_self, div-one, arith}
 use Rattle.std.specs.List.{range_with_len, flat_map}
 use Rattle.std.proofs.lemmas.List.{drop-drop, append-nil}
-use Rattle.std.proofs.lemmas.Bool.{cases_Bool, cases_lt, and_parts, eqb-true, not-true, not_from_true}
-use Rattle.base.specs.Bytes.{le_bytes, le_value, part}
+use Rattle.std.proofs.lemmas.Bool.{cases_lt, and_parts, eqb-true, not-true, not_from_true}
+use Rattle.base.specs.Bytes.{le_bytes, le_value, part, over}
 use Rattle.base.proofs.Little.{le_value-le_bytes}
-use Rattle.base.specs.Answers.{refuse}
 use Rattle.base.specs.Sizes.{misfit}
-use Rattle.base.proofs.Pieces.{pieces_same, part_part, piece_at, stored-place, length-stored}
+use Rattle.base.proofs.Pieces.{over_whole, pieces_same, part_part, piece_at, stored-place, length-stored}
 use Rattle.base.proofs.Every.{every_same}
 use Rattle.base.proofs.Lengths.{fits}
-use Rattle.base.proofs.Refusing.{past, passes, stops}
+use Rattle.base.proofs.Refusing.{passes}
 use Rattle.algebra.specs.Fields.{Laws, Widths}
 use Rattle.algebra.specs.Polynomials.{at, sum_to}
 use Rattle.algebra.proofs.Ring.{zero-code}
 use Rattle.algebra.specs.Slices.{stored_at, combined_at, combined}
-use Rattle.erasure.specs.declared.fault.SliceCause.TheVariants.{PackageMisfit, RecordsMisfit}
-use Rattle.erasure.specs.declared.fault.SliceFault.{SliceFault}
 use Rattle.erasure.specs.Records.{Coding, columns, head, issue_in, record_length, record_with, given_symbol}
 use Rattle.erasure.specs.Formula.{point_weights, combined_record}
 use Rattle.recovery.specs.Formula.{worked_out, worked_slice, recovered, package_from, rebuilt}
-use Rattle.erasure.specs.Slices.{fault_of, cut_answer}
-use Rattle.recovery.specs.Answers.{given_records, positions_fit, records_fit, codes_fit, data_fits, rebuild_rest}
+use Rattle.erasure.specs.Slices.{cut_answer}
+use Rattle.recovery.specs.Answers.{records_fit, codes_fit, data_fits, rebuild_rest}
 use Rattle.recovery.specs.Gathered.{slices_whole, gathered}
+use Rattle.erasure.proofs.Reading.{slices_fit}
 use Rattle.erasure.proofs.RecordOf.{combined_value}
 use Rattle.erasure.proofs.Weighing.{length-combined}
-
--- Checks that were passed are passed whatever comes next, and a refusal stays the same.
-module _ (C : Coding) (n bytes : ℕ) (positions records : List ℕ) (named : Option ℕ) where
-  abbrev unfit : Bool
-  unfit = not (positions_fit C.needed n positions && records_fit C bytes records)
-
-  pub given_next : {S T : Type 0} (y x : S) (next : Result T SliceFault) → given_records C n bytes positions records named (Ok y) ≡ Ok x → given_records C n bytes positions records named next ≡ next
-  given_next y x next e =
-      let p = past (misfit bytes) (fault_of named PackageMisfit) (refuse unfit (fault_of named RecordsMisfit) (Ok y)) x e in
-      let q = past unfit (fault_of named RecordsMisfit) (Ok y) x p.1 in
-      passes (misfit bytes) _ _ p.0 ∙ passes unfit _ _ q.0
-
-  pub given_stop : {S T : Type 0} (y : S) (e : SliceFault) (next : Result T SliceFault) → given_records C n bytes positions records named (Ok y) ≡ Err e → given_records C n bytes positions records named next ≡ Err e
-  given_stop y e next h = elim (cases_Bool (misfit bytes)) [
-    | inl t ↦ let same : Err (fault_of named PackageMisfit) ≡ Err e = rw t at h in let f : fault_of named PackageMisfit ≡ e = cc in stops (misfit bytes) _ _ t ∙ ap Err f
-    | inr t ↦ elim (cases_Bool unfit) [
-      | inl u ↦ let same : Err (fault_of named RecordsMisfit) ≡ Err e = rw (t, u) at h in let f : fault_of named RecordsMisfit ≡ e = cc in passes (misfit bytes) _ _ t ∙ stops unfit _ _ u ∙ ap Err f
-      | inr u ↦ let same : Ok y ≡ Err e = rw (t, u) at h in cc
-    ]
-  ]
 
 module _ (C : Coding) (bytes : ℕ) (rs : List ℕ) (h : records_fit C bytes rs ≡ true) where
   abbrev long : Bool
@@ -58,6 +36,11 @@ module _ (C : Coding) (bytes : ℕ) (rs : List ℕ) (h : records_fit C bytes rs 
 
   pub records-issued : issued ≡ true
   records-issued = (and_parts long issued (and_parts (long && issued) _ h).0).1
+
+-- What is worked out fits working memory.
+pub slices_room : (C : Coding) → Widths C.ops C.width C.stored C.number → 1 ≤ C.needed → C.needed ≤ 16 → (bytes m : ℕ) → misfit bytes ≡ false → m ≡ columns C bytes → C.needed * (m * C.stored) ≤ 6400
+slices_room C W low high bytes m fit em =
+    subst (λ n. C.needed * (n * C.stored) ≤ 6400) (sym em) (slices_fit C.ops C.width C.stored C.number W C.needed bytes low high (fits bytes fit).2)
 
 -- What cut answers where records were checked is what rebuild does.
 pub cut_rest : (C : Coding) (n bytes : ℕ) (records : List ℕ) (c issue out : ℕ) → misfit bytes ≡ false → not (ltb c n) ≡ false → not (eqb issue 0) ≡ true → codes_fit C bytes records ≡ true →
@@ -140,3 +123,16 @@ module _ (C : Coding) (L : Laws C.ops) (W : Widths C.ops C.width C.stored C.numb
   pub package-long : (bytes : ℕ) (positions records : List ℕ) → misfit bytes ≡ false → length (package_from C bytes positions records) ≡ bytes
   unfolding package_from
   package-long bytes positions records fit = length-stored (λ t. worked_out C bytes positions records (t / C.needed) (t % C.needed)) C.width (bytes / C.width) ∙ whole_symbols bytes fit
+
+  -- what is read in working memory that holds the slices
+  module _ (bytes : ℕ) (positions records slices : List ℕ) (e : slices ≡ over (recovered C positions (drop 6 records) (record_length C bytes) (columns C bytes)) (replicate 6400 0)) where
+    pub data_is : slices_whole C (bytes / C.width) (columns C bytes) (columns C bytes * C.stored) slices ≡ data_fits C bytes positions records
+    data_is = ap (slices_whole C (bytes / C.width) (columns C bytes) (columns C bytes * C.stored)) e ∙ whole_is bytes positions records _
+
+    pub package_is : 0 < C.needed → (own : List ℕ) → length own ≡ bytes → misfit bytes ≡ false →
+        over (gathered C (columns C bytes * C.stored) slices (length own / C.width)) own ≡ package_from C bytes positions records
+    package_is pos own long fit =
+        let is : gathered C (columns C bytes * C.stored) slices (length own / C.width) ≡ package_from C bytes positions records =
+        ap (λ n. gathered C (columns C bytes * C.stored) slices (n / C.width)) long ∙ ap (λ xs. gathered C (columns C bytes * C.stored) xs (bytes / C.width)) e
+        ∙ gathered_is bytes positions records _ pos in
+        ap (λ xs. over xs own) is ∙ over_whole (package_from C bytes positions records) own (omega (arith, long, package-long bytes positions records fit))

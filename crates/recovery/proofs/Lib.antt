@@ -1,3 +1,4 @@
+pub mod Chains
 pub mod Reading
 pub mod Checked
 pub mod RecordBytes
@@ -5,3 +6,4 @@ pub mod Worked
 pub mod FromCut
 pub mod Accepted
 pub mod Restoring
+pub mod Laid

@@ -1,9 +1,12 @@
 -- From any k records of a package come the package and every record of it, and from no others. Assumes nothing.
-use Rattle.std.proofs.Common.{◌≡◌, ℕ, ◌<◌, ◌≤◌, not, ◌&&◌, ltb, List, length, Some, None, Ok, ◌∙◌, subst}
+use Rattle.std.proofs.Common.{◌≡◌, ℕ, ◌<◌, ◌≤◌, not, ◌&&◌, ltb, List, length, Some, None, Ok, ◌∙◌, subst, arith}
 use Rattle.std.proofs.lemmas.Bool.{and_parts, and_from, ltb-true, lt-ltb, le-ltb, not-false, not_from_true}
 use Rattle.base.specs.Bytes.{Bytes}
 use Rattle.base.proofs.Refusing.{past, passes}
 use Rattle.algebra.specs.Fields.{Laws, Widths}
+use Rattle.algebra.specs.declared.field.Field.{Ghosts as Field}
+use Rattle.erasure.specs.declared.plan.Plan.{Plan}
+use Rattle.erasure.specs.Whole.{coding_of}
 use Rattle.erasure.specs.Records.{Coding, issue_in, record_length, IsRecord}
 use Rattle.recovery.specs.Formula.{package_from, rebuilt}
 use Rattle.recovery.specs.Answers.{codes_fit, data_fits, join_rest, join_answer, rebuild_rest, rebuild_answer}
@@ -65,3 +68,11 @@ module _ (C : Coding) (L : Laws C.ops) (W : Widths C.ops C.width C.stored C.numb
     each = λ pkg issue out e R hc. subst (λ b. record_length C b ≤ out → (rebuild_answer C n b positions records c out ≡ Ok (record_length C b)) × IsRecord C pkg c issue (rebuilt C b positions records c)) e
         (rebuild_each C L W n positions records low high most pkg issue out R c hc);
   }
+
+-- The same of a plan and a field of the program.
+module _ {F : Type 0} (field : Field F) (L : Laws field.ops) (W : Widths field.ops field.width field.stored field.number) (plan : Plan) (bytes : ℕ) (positions records : List ℕ) (real : Bytes records) where
+  pub plan_joins : Joins (coding_of field plan) plan.n bytes positions records
+  plan_joins = joins (coding_of field plan) L W plan.n bytes positions records real (omega (arith, plan.fits)) (omega (arith, plan.fits)) (omega (arith, plan.fits))
+
+  pub plan_rebuilds : (c : ℕ) → Rebuilds (coding_of field plan) plan.n bytes positions records c
+  plan_rebuilds = rebuilds (coding_of field plan) L W plan.n bytes positions records real (omega (arith, plan.fits)) (omega (arith, plan.fits)) (omega (arith, plan.fits))

@@ -1,5 +1,4 @@
 pub mod Formula
 pub mod Answers
-pub mod Given
 pub mod Gathered
 pub mod Joins

@@ -1,11 +1,13 @@
 // A package from its slices: whether they are a package's, and its bytes.
-ghost use Rattle.std.specs.Prelude.{◌≡◌, ◌+◌, ◌*◌, ◌/◌, ◌^◌, ◌<◌, ◌≤◌, length, if◌then◌else◌, nat_lt};
+ghost use Rattle.std.specs.Prelude.{◌≡◌, ◌*◌, ◌/◌, ◌^◌, ◌<◌, ◌≤◌, length, if◌then◌else◌, nat_lt};
 ghost use Rattle.base.specs.Bytes.{over};
 ghost use Rattle.base.specs.Tests.{every};
 ghost use Rattle.algebra.specs.Slices.{stored_at};
-ghost use Rattle.erasure.specs.Records.{coding};
+ghost use Rattle.erasure.specs.Records.{columns};
+ghost use Rattle.erasure.specs.Whole.{coding_of};
 ghost use Rattle.recovery.specs.Gathered.{column_whole, slices_whole, gathered};
 
+use crate::checking::Checked;
 use algebra::Field;
 use base::{le_at, put_le};
 
@@ -13,10 +15,11 @@ use base::{le_at, put_le};
 fn symbol_limit<F: Field>(within: bool) -> u32
     ensures { result ≡ (if within then 256 ^ F.width else 1) }
 {
-    if !within {
-        return 1;
+    if within {
+        1 << (8 * F::data_width())
+    } else {
+        1
     }
-    if F::data_width() == 1 { 256 } else { 65536 }
 }
 
 fn symbol_fits<F: Field>(slices: &[u8], place: usize, within: bool) -> bool
@@ -25,62 +28,46 @@ fn symbol_fits<F: Field>(slices: &[u8], place: usize, within: bool) -> bool
     le_at(slices, place, F::stored_width()) < symbol_limit::<F>(within)
 }
 
-fn column_fits<F: Field>(k: usize, symbols: usize, size: usize, slices: &[u8], j: usize) -> bool
-    requires { (k ≤ 16) × ((size ≤ 6400) × (j ≤ 6400)) }
-    ensures { result ≡ every k (column_whole (coding F.ops F.width F.stored F.number k) symbols size slices.now j) }
-{
-    for i in 0..k {
-        if !symbol_fits::<F>(
-            slices,
-            i * size + j * F::stored_width(),
-            j * k + i < symbols,
-        ) {
-            return false;
-        }
+impl<F: Field> Checked<'_, F> {
+    // Whether column j of the slices is one of the package.
+    fn column_fits(&self, slices: &[u8], j: usize) -> bool
+        requires { j < self.now.count }
+        ensures { result ≡ every self.now.plan.now.k (column_whole (coding_of F.Field self.now.plan.now) (self.now.bytes / F.width) (columns (coding_of F.Field self.now.plan.now) self.now.bytes * F.stored) slices.now j) }
+    {
+        let k = self.plan.needed();
+        let symbols = self.bytes / F::data_width();
+        let size = self.slice_length();
+        let place = j * F::stored_width();
+        (0..k).all(|i| symbol_fits::<F>(slices, i * size + place, j * k + i < symbols))
     }
-    true
-}
 
-// Whether the slices are those of a package of so many symbols.
-pub(crate) fn slices_fit<F: Field>(
-    k: usize,
-    symbols: usize,
-    columns: usize,
-    size: usize,
-    slices: &[u8],
-) -> bool
-    requires { (k ≤ 16) × ((size ≤ 6400) × (columns ≤ 6400)) }
-    ensures { result ≡ slices_whole (coding F.ops F.width F.stored F.number k) symbols columns size slices.now }
-{
-    for j in 0..columns {
-        if !column_fits::<F>(k, symbols, size, slices, j) {
-            return false;
-        }
+    // Whether the slices are those of the package.
+    pub(crate) fn slices_fit(&self, slices: &[u8]) -> bool
+        ensures { result ≡ slices_whole (coding_of F.Field self.now.plan.now) (self.now.bytes / F.width) (columns (coding_of F.Field self.now.plan.now) self.now.bytes) (columns (coding_of F.Field self.now.plan.now) self.now.bytes * F.stored) slices.now }
+    {
+        (0..self.count).all(|j| self.column_fits(slices, j))
     }
-    true
-}
 
-// Writes the package whose slices these are, as much of it as the output has room for. The symbol t is the symbol i of column j,
-// which are counted since a division for each would take most of the time.
-pub(crate) fn gather<F: Field>(k: usize, size: usize, slices: &[u8], out: &mut [u8])
-    requires { (1 ≤ k) × ((k ≤ 16) × ((size ≤ 6400) × (length out.old ≤ 4128))) }
-    ensures { out.new ≡ over (gathered (coding F.ops F.width F.stored F.number k) size slices.now (length out.old / F.width)) out.old }
-{
-    let width = F::data_width();
-    let stored = F::stored_width();
-    let mut i = 0;
-    let mut j = 0;
-    for t in 0..out.len() / width {
-        put_le(
-            out,
-            t * width,
-            width,
-            le_at(slices, i * size + j * stored, stored),
-        );
-        i += 1;
-        if i == k {
-            i = 0;
-            j += 1;
+    // Writes the package whose slices these are, as much of it as the output has room for.
+    pub(crate) fn gather(&self, slices: &[u8], out: &mut [u8])
+        requires { length out.old ≤ self.now.bytes }
+        ensures { out.new ≡ over (gathered (coding_of F.Field self.now.plan.now) (columns (coding_of F.Field self.now.plan.now) self.now.bytes * F.stored) slices.now (length out.old / F.width)) out.old }
+    {
+        let k = self.plan.needed();
+        let width = F::data_width();
+        let stored = F::stored_width();
+        let size = self.slice_length();
+        // by places: after a loop over chunks_exact_mut a proof knows nothing of what stands in the chunks
+        for j in 0..self.count {
+            for i in 0..k {
+                // a symbol past the end of the output is not written
+                put_le(
+                    out,
+                    (j * k + i) * width,
+                    width,
+                    le_at(slices, i * size + j * stored, stored),
+                );
+            }
         }
     }
 }

@@ -1,70 +1,66 @@
-ghost use Rattle.std.specs.Prelude.{◌≡◌, length, drop, replicate, IfOk, Ok};
+ghost use Rattle.std.specs.Prelude.{◌≡◌, length, drop, replicate};
 ghost use Rattle.base.specs.Answers.{leaves};
 ghost use Rattle.base.specs.Bytes.{over};
-ghost use Rattle.erasure.specs.Records.{coding, columns, record_length};
+ghost use Rattle.erasure.specs.Records.{columns, record_length};
+ghost use Rattle.erasure.specs.Whole.{coding_of};
 ghost use Rattle.recovery.specs.Formula.{package_from, rebuilt, recovered};
-ghost use Rattle.recovery.specs.Answers.{given_records, join_rest, join_answer, rebuild_rest, rebuild_answer};
-ghost use Rattle.recovery.specs.Given.{Given};
+ghost use Rattle.recovery.specs.Answers.{join_rest, join_answer, rebuild_rest, rebuild_answer};
 ghost use Rattle.recovery.specs.Joins.{Joins, Rebuilds};
 
-use crate::checking::{codes_fit, positions_fit, records_fit};
-use crate::gathering::{gather, slices_fit};
+use crate::checking::Checked;
 use algebra::Field;
-use erasure::{Head, Plan, SliceCause, SliceFault, cut_from, record_length, refused, symbols_at};
+use erasure::{Head, Plan, SliceCause, SliceFault, cut_from, refused};
 
-// Checks a package's length, positions and records that are given together, and answers how many columns there are.
-fn check_records<F: Field>(
-    plan: &Plan,
-    bytes: usize,
-    positions: &[u8],
-    records: &[u8],
-    named: Option<usize>,
-) -> Result<usize, SliceFault>
-    ensures answers { result ≡ given_records (coding F.ops F.width F.stored F.number plan.now.k) plan.now.n bytes positions.now records.now named (Ok (columns (coding F.ops F.width F.stored F.number plan.now.k) bytes)) }
-    ensures facts { IfOk result (Given (coding F.ops F.width F.stored F.number plan.now.k) plan.now.n bytes positions.now records.now) }
-{
-    let Some(whole) = record_length::<F>(plan, bytes) else {
-        return refused(SliceCause::PackageMisfit, named);
-    };
-    let k = plan.needed();
-    if !(positions_fit(k, plan.fitted(), positions) && records_fit::<F>(k, bytes, whole, records)) {
-        return refused(SliceCause::RecordsMisfit, named);
+impl<F: Field> Checked<'_, F> {
+    // Rebuilds the record of a cabinet.
+    fn rebuild(&self, cabinet: usize, out: &mut [u8]) -> Result<usize, SliceFault>
+        ensures answers { result ≡ rebuild_rest (coding_of F.Field self.now.plan.now) self.now.plan.now.n self.now.bytes self.now.records.now cabinet (length out.old) }
+        ensures fills { out.new ≡ leaves result out.old (over (rebuilt (coding_of F.Field self.now.plan.now) self.now.bytes self.now.positions.now self.now.records.now cabinet) out.old) }
+    {
+        let named = Some(cabinet);
+        if cabinet >= self.plan.fitted() {
+            return refused(SliceCause::NoCabinet, named);
+        }
+        if !self.codes_fit() {
+            return refused(SliceCause::SymbolMisfit, named);
+        }
+        let issue = Head::read(self.records).issue;
+        let sources = self.sources();
+        cut_from::<F>(self.plan, self.bytes, &sources, cabinet, issue, out)
     }
-    Ok((whole - 6) / F::stored_width())
-}
 
-// Rebuilds a record from records that were checked.
-fn rebuild_checked<F: Field>(
-    plan: &Plan,
-    bytes: usize,
-    columns: usize,
-    positions: &[u8],
-    records: &[u8],
-    cabinet: usize,
-    out: &mut [u8],
-) -> Result<usize, SliceFault>
-    requires { Given (coding F.ops F.width F.stored F.number plan.now.k) plan.now.n bytes positions.now records.now columns }
-    ensures answers { result ≡ rebuild_rest (coding F.ops F.width F.stored F.number plan.now.k) plan.now.n bytes records.now cabinet (length out.old) }
-    ensures fills { out.new ≡ leaves result out.old (over (rebuilt (coding F.ops F.width F.stored F.number plan.now.k) bytes positions.now records.now cabinet) out.old) }
-{
-    let named = Some(cabinet);
-    if cabinet >= plan.fitted() {
-        return refused(SliceCause::NoCabinet, named);
+    // The slices of the package, one after the other.
+    fn slices(&self) -> [u8; 6400]
+        ensures { result ≡ over (recovered (coding_of F.Field self.now.plan.now) self.now.positions.now (drop 6 self.now.records.now) (record_length (coding_of F.Field self.now.plan.now) self.now.bytes) (columns (coding_of F.Field self.now.plan.now) self.now.bytes)) (replicate 6400 0) }
+    {
+        let mut slices = [0u8; 6400];
+        let size = self.slice_length();
+        let sources = self.sources();
+        // by places: after a loop over chunks_exact_mut a proof knows nothing of what stands in the chunks
+        for i in 0..self.plan.needed() {
+            sources.symbols_at::<F>(self.plan, i as u32, &mut slices[i * size..(i + 1) * size]);
+        }
+        slices
     }
-    if !codes_fit::<F>(plan.needed(), bytes, columns, records) {
-        return refused(SliceCause::SymbolMisfit, named);
+
+    // Joins the package.
+    fn join(&self, out: &mut [u8]) -> Result<usize, SliceFault>
+        ensures answers { result ≡ join_rest (coding_of F.Field self.now.plan.now) self.now.bytes self.now.positions.now self.now.records.now (length out.old) }
+        ensures fills { out.new ≡ leaves result out.old (over (package_from (coding_of F.Field self.now.plan.now) self.now.bytes self.now.positions.now self.now.records.now) out.old) }
+    {
+        if !self.codes_fit() {
+            return refused(SliceCause::SymbolMisfit, None);
+        }
+        let slices = self.slices();
+        if !self.slices_fit(&slices) {
+            return refused(SliceCause::SymbolMisfit, None);
+        }
+        if out.len() < self.bytes {
+            return refused(SliceCause::OutputShort, None);
+        }
+        self.gather(&slices, &mut out[..self.bytes]);
+        Ok(self.bytes)
     }
-    let issue = Head::read(records).issue;
-    cut_from::<F>(
-        plan,
-        bytes,
-        positions,
-        &records[6..],
-        6 + columns * F::stored_width(),
-        cabinet,
-        issue,
-        out,
-    )
 }
 
 // Rebuilds the record of a cabinet from k records end to end, those of the cabinets at the positions, of a package of so many
@@ -80,69 +76,12 @@ pub fn rebuild<F: Field>(
     cabinet: usize,
     out: &mut [u8],
 ) -> Result<usize, SliceFault>
-    ensures answers { result ≡ rebuild_answer (coding F.ops F.width F.stored F.number plan.now.k) plan.now.n bytes positions.now records.now cabinet (length out.old) }
-    ensures fills { out.new ≡ leaves result out.old (over (rebuilt (coding F.ops F.width F.stored F.number plan.now.k) bytes positions.now records.now cabinet) out.old) }
-    ensures exact { Rebuilds (coding F.ops F.width F.stored F.number plan.now.k) plan.now.n bytes positions.now records.now cabinet }
+    ensures answers { result ≡ rebuild_answer (coding_of F.Field plan.now) plan.now.n bytes positions.now records.now cabinet (length out.old) }
+    ensures fills { out.new ≡ leaves result out.old (over (rebuilt (coding_of F.Field plan.now) bytes positions.now records.now cabinet) out.old) }
+    ensures exact { Rebuilds (coding_of F.Field plan.now) plan.now.n bytes positions.now records.now cabinet }
 {
-    match check_records::<F>(plan, bytes, positions, records, Some(cabinet)) {
-        Ok(columns) => rebuild_checked::<F>(plan, bytes, columns, positions, records, cabinet, out),
-        Err(fault) => Err(fault),
-    }
-}
-
-// Works the slices of a package out, one after the other, from records that were checked.
-fn recover<F: Field>(
-    plan: &Plan,
-    bytes: usize,
-    columns: usize,
-    positions: &[u8],
-    records: &[u8],
-) -> [u8; 6400]
-    requires { Given (coding F.ops F.width F.stored F.number plan.now.k) plan.now.n bytes positions.now records.now columns }
-    ensures { result ≡ over (recovered (coding F.ops F.width F.stored F.number plan.now.k) positions.now (drop 6 records.now) (record_length (coding F.ops F.width F.stored F.number plan.now.k) bytes) (columns)) (replicate 6400 0) }
-{
-    let mut slices = [0u8; 6400];
-    let size = columns * F::stored_width();
-    for i in 0..plan.needed() {
-        symbols_at::<F>(
-            plan,
-            positions,
-            &records[6..],
-            6 + size,
-            i as u32,
-            &mut slices[i * size..(i + 1) * size],
-        );
-    }
-    slices
-}
-
-// Joins a package from records that were checked.
-fn join_checked<F: Field>(
-    plan: &Plan,
-    bytes: usize,
-    columns: usize,
-    positions: &[u8],
-    records: &[u8],
-    out: &mut [u8],
-) -> Result<usize, SliceFault>
-    requires { Given (coding F.ops F.width F.stored F.number plan.now.k) plan.now.n bytes positions.now records.now columns }
-    ensures answers { result ≡ join_rest (coding F.ops F.width F.stored F.number plan.now.k) bytes positions.now records.now (length out.old) }
-    ensures fills { out.new ≡ leaves result out.old (over (package_from (coding F.ops F.width F.stored F.number plan.now.k) bytes positions.now records.now) out.old) }
-{
-    let k = plan.needed();
-    if !codes_fit::<F>(k, bytes, columns, records) {
-        return refused(SliceCause::SymbolMisfit, None);
-    }
-    let slices = recover::<F>(plan, bytes, columns, positions, records);
-    let size = columns * F::stored_width();
-    if !slices_fit::<F>(k, bytes / F::data_width(), columns, size, &slices) {
-        return refused(SliceCause::SymbolMisfit, None);
-    }
-    if out.len() < bytes {
-        return refused(SliceCause::OutputShort, None);
-    }
-    gather::<F>(k, size, &slices, &mut out[0..bytes]);
-    Ok(bytes)
+    let checked = Checked::<F>::check(plan, bytes, positions, records, Some(cabinet))?;
+    checked.rebuild(cabinet, out)
 }
 
 // Joins a package of so many bytes from k records end to end, those of the cabinets at the positions. It goes into the front of
@@ -156,12 +95,10 @@ pub fn join<F: Field>(
     records: &[u8],
     out: &mut [u8],
 ) -> Result<usize, SliceFault>
-    ensures answers { result ≡ join_answer (coding F.ops F.width F.stored F.number plan.now.k) plan.now.n bytes positions.now records.now (length out.old) }
-    ensures fills { out.new ≡ leaves result out.old (over (package_from (coding F.ops F.width F.stored F.number plan.now.k) bytes positions.now records.now) out.old) }
-    ensures exact { Joins (coding F.ops F.width F.stored F.number plan.now.k) plan.now.n bytes positions.now records.now }
+    ensures answers { result ≡ join_answer (coding_of F.Field plan.now) plan.now.n bytes positions.now records.now (length out.old) }
+    ensures fills { out.new ≡ leaves result out.old (over (package_from (coding_of F.Field plan.now) bytes positions.now records.now) out.old) }
+    ensures exact { Joins (coding_of F.Field plan.now) plan.now.n bytes positions.now records.now }
 {
-    match check_records::<F>(plan, bytes, positions, records, None) {
-        Ok(columns) => join_checked::<F>(plan, bytes, columns, positions, records, out),
-        Err(fault) => Err(fault),
-    }
+    let checked = Checked::<F>::check(plan, bytes, positions, records, None)?;
+    checked.join(out)
 }

@@ -1,13 +1,11 @@
-use Rattle.std.proofs.Common.{replicate, ◌∙◌, arith}
-use Rattle.base.proofs.Placed.{placed_none, placed_more, placed_all}
+use Rattle.std.proofs.Common.{arith, rules}
+use Rattle.std.proofs.lemmas.List.FromFn.{fill_by_all}
 use Rattle.algebra.specs.Polynomials.{at}
+use Rattle.erasure.proofs.Points.{made_at}
 use Rattle.erasure.proofs.combining.points_of.Goals as goal
 
-pub loop-i-init : goal.loop-i-init
-loop-i-init c = placed_none (replicate 16 0) (at c.args.positions.now)
-
-pub loop-i-preserved : goal.loop-i-preserved
-loop-i-preserved c = placed_more (replicate 16 0) c.loop-i.points c.loop-i.i _ (at c.args.positions.now) (omega arith) (c.from.ensures ∙ c.byte_at.ensures) c.loop-i.invariant
-
 pub returns : goal.returns
-returns c = placed_all (replicate 16 0) c.loop-i.points c.loop-i.i (at c.args.positions.now) (omega arith) c.loop-i.invariant
+returns c =
+    let made = c.from_fn.ensures.items in
+    fill_by_all (at c.args.positions.now) c.from_fn.result 16 0 made.long
+    (λ k h. made_at _ _ (at c.args.positions.now) (λ i y q r. search rules) c.from_fn.result 16 0 made.each k (omega arith) (omega arith))

@@ -1,36 +1,27 @@
-use Rattle.std.proofs.Common.{◌≡◌, ◌+◌, ◌-◌, ◌*◌, ◌≤◌, length, take, sym, ap, ◌∙◌, subst, arith, rules}
-use Rattle.std.proofs.lemmas.List.{length-take}
+use Rattle.std.proofs.Common.{◌≡◌, ℕ, ◌*◌, false, length, Ok, sym, ap, ◌∙◌, zero-add, arith, rules}
+use Rattle.std.proofs.lemmas.List.FromFn.{get_or-range_with_len}
 use Rattle.base.specs.Bytes.{over}
-use Rattle.erasure.specs.Records.{coding}
-use Rattle.erasure.specs.Formula.{record_from}
-use Rattle.erasure.proofs.Reading.{one_slice}
-use Rattle.erasure.proofs.Points.{record_laid}
+use Rattle.base.specs.Sizes.{misfit}
+use Rattle.base.proofs.Refusing.{leaves_same}
+use Rattle.erasure.specs.Records.{columns}
+use Rattle.erasure.specs.Whole.{coding_of}
+use Rattle.erasure.proofs.Points.{own_cut}
+use Rattle.erasure.proofs.RecordOf.{cut_past}
 use Rattle.erasure.proofs.cutting.cut_spread.Goals as goal
-
-pub write_record-requires : goal.write_record-requires
-write_record-requires g c =
-    let k = c.needed-k.result in
-    let m = c.column_count-columns.result in
-    let v = c.stored_width.result in
-    let plan = c.args.plan.now.fits in
-    let bound : k * (m * v) ≤ 6400 = subst (λ n. k * (m * n) ≤ 6400) (sym c.stored_width.ensures) c.column_count-columns.ensures.bound in
-    let small : m * v ≤ 6400 = one_slice k (m * v) 6400 (omega (arith, plan, c.needed-k.ensures)) bound in
-    let long : length (take (6 + m * v - 0) c.args.out.now) ≡ 6 + m * v = length-take (6 + m * v - 0) c.args.out.now ∙ omega arith in
-    record {
-      few = omega (arith, plan, c.needed-k.ensures);
-      fitted = omega (arith, plan, c.fitted.ensures);
-      whole = long ∙ ap (λ n. 6 + m * n) c.stored_width.ensures;
-      small = omega (arith, long, small);
-    }
 
 pub returns : goal.returns
 returns g c =
-    let f = g.F.Field in
-    let k = c.needed-k.result in
-    let C = coding f.ops f.width f.stored f.number k in
+    let C = coding_of g.F.Field c.args.plan.now in
+    let L = g.met.F.Field.lawful in
+    let plan = c.args.plan.now.fits in
+    let out = c.args.out.now in
+    let stride : misfit c.args.bytes ≡ false → c.map_or-stride.result ≡ columns C c.args.bytes * C.stored = λ fit. search rules in
+    let fit : (x : ℕ) → c.cut_from.result ≡ Ok x → misfit c.args.bytes ≡ false =
+    λ x e. (cut_past C L g.met.F.Field.widths c.args.plan.now.n c.args.bytes c.args.cabinet c.args.issue (length out) x (sym c.cut_from.ensures.answers ∙ e)).0 in
     record {
-      answers = search rules;
-      fills = record_laid C c.args.bytes c.args.cabinet c.args.issue c.args.slices.now c.args.out.now c.write_record.new.out
-          c.column_count-columns.result c.stored_width.result c.column_count-columns.ensures.value c.stored_width.ensures c.if-out-whole.false c.write_record.ensures
-          ∙ ap (λ n. over (record_from (coding f.ops f.width f.stored f.number n) c.args.bytes c.args.slices.now c.args.cabinet c.args.issue) c.args.out.now) c.needed-k.ensures;
+      answers = c.cut_from.ensures.answers;
+      fills = c.cut_from.ensures.fills
+          ∙ leaves_same c.cut_from.result out _ _ (λ x e. ap (λ xs. over xs out)
+          (own_cut C L (omega (arith, plan)) c.args.bytes c.args.slices.now c.args.cabinet c.args.issue c.map_or-stride.result _ (stride (fit x e))
+          (λ i h. get_or-range_with_len 0 16 i 0 (omega (arith, plan)) ∙ zero-add i)));
     }

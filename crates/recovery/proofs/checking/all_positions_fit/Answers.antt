@@ -1,20 +1,18 @@
-use Rattle.std.proofs.Common.{◌≡◌, not, ◌&&◌, eqb, ltb, length, sym, ap, ◌∙◌, arith}
-use Rattle.base.specs.Tests.{every}
-use Rattle.base.proofs.Every.{every_none, every_more, every_fails}
+use borrow.Author.Tests.{tests}
+use Rattle.std.proofs.Common.{ℕ, not, ◌&&◌, eqb, ltb, Bool, length, take, ap, ◌∙◌, arith, rules}
+use Rattle.std.specs.List.{list_any}
+use Rattle.std.proofs.lemmas.Iterator.{YieldsList-from_slice}
+use Rattle.std.proofs.lemmas.Iterator.Consumers.{YieldsList-from_enumerate}
+use Rattle.std.proofs.lemmas.Iterator.Search.{all_from_yields_List}
+use Rattle.base.proofs.Every.{every_same}
 use Rattle.algebra.specs.Polynomials.{at}
+use Rattle.recovery.proofs.Chains.{all_numbered, none_before}
 use Rattle.recovery.proofs.checking.all_positions_fit.Goals as goal
-
-pub loop-i-init : goal.loop-i-init
-loop-i-init c = every_none (λ i. ltb (at c.args.positions.now i) c.args.n && every i (λ j. not (eqb (at c.args.positions.now i) (at c.args.positions.now j))))
-
-pub loop-i-preserved : goal.loop-i-preserved
-loop-i-preserved c = every_more c.loop-i.i (λ i. ltb (at c.args.positions.now i) c.args.n && every i (λ j. not (eqb (at c.args.positions.now i) (at c.args.positions.now j)))) c.loop-i.invariant (sym c.position_fits.ensures ∙ c.if-not-position_fits.false)
-
-pub returns-then-not-position_fits : goal.returns-then-not-position_fits
-returns-then-not-position_fits c =
-    sym (every_fails (length c.args.positions.now) c.loop-i.i (λ i. ltb (at c.args.positions.now i) c.args.n && every i (λ j. not (eqb (at c.args.positions.now i) (at c.args.positions.now j)))) c.loop-i-test.true (sym c.position_fits.ensures ∙ c.if-not-position_fits.true))
 
 pub returns : goal.returns
 returns c =
-    let last : c.loop-i.i ≡ length c.args.positions.now = omega arith in
-    sym c.loop-i.invariant ∙ ap (λ n. every n (λ i. ltb (at c.args.positions.now i) c.args.n && every i (λ j. not (eqb (at c.args.positions.now i) (at c.args.positions.now j))))) last
+    let ps = c.args.positions.now in
+    let test : ℕ × ℕ → Bool = λ p. ltb p.1 c.args.n && not (list_any (λ y. eqb y p.1) (take p.0 ps)) in
+    all_from_yields_List test _ _ c.all.result c.all.ensures.ran (YieldsList-from_enumerate (YieldsList-from_slice ps (cc)) (cc)) (λ x b q k. search (rules, tests))
+    ∙ all_numbered test ps
+    ∙ every_same (length ps) _ _ (λ i h. ap (λ b. ltb (at ps i) c.args.n && b) (none_before ps i (at ps i) (omega arith)))

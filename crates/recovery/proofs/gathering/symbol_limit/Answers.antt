@@ -1,9 +1,13 @@
-use Rattle.std.proofs.Common.{◌≡◌, ◌^◌, true, cond, sym, ap, ◌∙◌, arith}
+use Rattle.std.proofs.Common.{◌≡◌, ℕ, zero, suc, ◌*◌, ◌%◌, ◌^◌, ◌≤◌, cond, sym, refl, ap, ◌∙◌, arith}
 use Rattle.recovery.proofs.gathering.symbol_limit.Goals as goal
 
-pub returns-else-data_width-eq1 : goal.returns-else-data_width-eq1
-returns-else-data_width-eq1 g c =
-    let w = g.F.Field.width in
-    let two : w ≡ 2 = omega (arith, g.met.F.Field.widths.least, g.met.F.Field.widths.most, c.data_width.ensures, c.if-data_width-eq1.false) in
-    let within : c.args.within ≡ true = c.if-not-within.false in
-    sym (ap (λ b. cond b (256 ^ w) 1) within ∙ ap (λ n. 256 ^ n) two)
+shifted : (w : ℕ) → 1 ≤ w → w ≤ 2 → 1 * 2 ^ (8 * w) % 4294967296 ≡ 256 ^ w
+shifted zero low high = absurd (omega arith)
+shifted (suc zero) low high = refl
+shifted (suc (suc zero)) low high = refl
+shifted (suc (suc (suc w))) low high = absurd (omega arith)
+
+pub returns-then-within : goal.returns-then-within
+returns-then-within g c =
+    let W = g.met.F.Field.widths in
+    ap (λ v. 1 * 2 ^ (8 * v) % 4294967296) c.data_width.ensures ∙ shifted g.F.Field.width W.least W.most ∙ sym (ap (λ b. cond b (256 ^ g.F.Field.width) 1) c.if-within.true)

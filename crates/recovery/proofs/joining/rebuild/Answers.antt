@@ -1,43 +1,26 @@
-use Rattle.std.proofs.Common.{length, Some, sym, refl, ◌∙◌, arith}
-use Rattle.erasure.specs.Records.{coding, columns}
+use Rattle.std.proofs.Common.{ℕ, length, Result, sym, ap, ◌∙◌}
+use Rattle.std.proofs.lemmas.Result.{err_from_is_err_and}
+use Rattle.base.specs.Answers.{pass}
+use Rattle.erasure.specs.declared.fault.SliceFault.{SliceFault}
+use Rattle.erasure.specs.Whole.{coding_of}
 use Rattle.recovery.specs.Answers.{rebuild_rest}
-use Rattle.recovery.proofs.Checked.{given_next, given_stop}
-use Rattle.recovery.proofs.Restoring.{rebuilds}
+use Rattle.recovery.proofs.Restoring.{plan_rebuilds}
 use Rattle.recovery.proofs.joining.rebuild.Goals as goal
 
-pub returns-in-Ok : goal.returns-in-Ok
-returns-in-Ok g c =
-    let f = g.F.Field in
-    let L = g.met.F.Field.lawful in
-    let W = g.met.F.Field.widths in
-    let plan = c.args.plan.now.fits in
-    let C = coding f.ops f.width f.stored f.number c.args.plan.now.k in
-    let n = c.args.plan.now.n in
-    let bytes = c.args.bytes in
-    let x = c.args.cabinet in
-    let records = c.args.records.now in
-    record {
-      answers = c.rebuild_checked.ensures.answers
-          ∙ sym (given_next C n bytes c.args.positions.now records (Some x) (columns C bytes) c.in-Ok.columns (rebuild_rest C n bytes records x (length c.args.out.now))
-          (sym c.check_records.ensures.answers ∙ c.in-Ok.is));
-      fills = c.rebuild_checked.ensures.fills;
-      exact = rebuilds C L W n bytes c.args.positions.now records (λ i. (c.type_inv.records i).fits) (omega (arith, plan)) (omega (arith, plan)) (omega (arith, plan)) x;
-    }
+pub returns-clause-exact : goal.returns-clause-exact
+returns-clause-exact g c =
+    let a = c.args in
+    plan_rebuilds g.F.Field g.met.F.Field.lawful g.met.F.Field.widths a.plan.now a.bytes a.positions.now a.records.now (λ i. (c.type_inv.records i).fits) a.cabinet
 
-pub returns-in-Err : goal.returns-in-Err
-returns-in-Err g c =
-    let f = g.F.Field in
-    let L = g.met.F.Field.lawful in
-    let W = g.met.F.Field.widths in
-    let plan = c.args.plan.now.fits in
-    let C = coding f.ops f.width f.stored f.number c.args.plan.now.k in
-    let n = c.args.plan.now.n in
-    let bytes = c.args.bytes in
-    let x = c.args.cabinet in
-    let records = c.args.records.now in
-    record {
-      answers = sym (given_stop C n bytes c.args.positions.now records (Some x) (columns C bytes) c.in-Err.fault (rebuild_rest C n bytes records x (length c.args.out.now))
-          (sym c.check_records.ensures.answers ∙ c.in-Err.is));
-      fills = refl;
-      exact = rebuilds C L W n bytes c.args.positions.now records (λ i. (c.type_inv.records i).fits) (omega (arith, plan)) (omega (arith, plan)) (omega (arith, plan)) x;
-    }
+pub returns-in_err-checked-clause-exact : goal.returns-in_err-checked-clause-exact
+returns-in_err-checked-clause-exact g c =
+    let a = c.args in
+    plan_rebuilds g.F.Field g.met.F.Field.lawful g.met.F.Field.widths a.plan.now a.bytes a.positions.now a.records.now (λ i. (c.type_inv.records i).fits) a.cabinet
+
+pub returns-in_err-checked-clause-answers : goal.returns-in_err-checked-clause-answers
+returns-in_err-checked-clause-answers g c =
+    let a = c.args in
+    let C = coding_of g.F.Field a.plan.now in
+    let next : Result ℕ SliceFault = rebuild_rest C a.plan.now.n a.bytes a.records.now a.cabinet (length a.out.now) in
+    let told = err_from_is_err_and c.from_residual.result c.from_residual.ensures.1 in
+    rw (told.1, told.2) (sym (c.check.ensures.answers next ∙ ap (λ r. pass (λ e. e) r (λ _. next)) c.in_err-checked.was))
