@@ -14,7 +14,7 @@ use crate::fault::{SliceCause, SliceFault, refused};
 use crate::head::{HEAD_LENGTH, Head};
 use crate::lengths::record_length;
 use crate::plan::Plan;
-use algebra::{Field, weights};
+use algebra::{Field, WeightedSum, weights};
 use base::byte_at;
 use std::array;
 
@@ -53,7 +53,12 @@ impl Sources<'_> {
         ensures { out.new ≡ over (combined F.ops F.stored (point_weights (coding_of F.Field plan.now) (at self.now.positions.now) x) self.now.slices.now self.now.stride (length out.old / F.stored)) out.old }
     {
         let all = self.weights_at::<F>(plan, x);
-        F::combine(&all[..plan.needed()], self.slices, self.stride, out);
+        let sum = WeightedSum {
+            weights: &all[..plan.needed()],
+            sources: self.slices,
+            stride: self.stride,
+        };
+        F::combine(&sum, out);
     }
 
     // Writes the record of a cabinet into an output of just its length.
