@@ -4,7 +4,8 @@ use Rattle.std.proofs.lemmas.Bool.{cases_lt, cases_eq, and_left, lt-ltb, le-ltb,
 use Rattle.base.specs.Answers.{refuse, leaves}
 use Rattle.base.specs.Bytes.{over}
 use Rattle.rows.specs.declared.fault.RowCause.TheVariants as cause
-use Rattle.rows.specs.declared.fault.RowFault.{RowFault}
+use Rattle.rows.specs.declared.fault.Fault.{Fault}
+use Rattle.rows.specs.declared.fault.RowCause.{RowCause}
 use Rattle.rows.specs.Calls.{of_cabinet, of_slot, reach_answer, cabinet_answer, slot_answer, held_answer, read_answer, write_answer}
 use Rattle.rows.specs.Faults.{cabinet_fault, slot_fault}
 use Rattle.rows.specs.Model.{RowModel, Slot, Empty, Condemned, Held, held, with_slot, with_reach, with_new}
@@ -21,7 +22,7 @@ unfolding piled
 piled_room a b = refl
 
 -- a refusal of the second row, about the cabinet that the call named
-naming-refuse : {T : Type 0} (c : ℕ) (t : Bool) (e : RowFault) (r : Result T RowFault) → naming c (refuse t e r) ≡ refuse t (record { cause = e.cause; cabinet = Some c; file = e.file }) (naming c r)
+naming-refuse : {T : Type 0} (c : ℕ) (t : Bool) (e : Fault RowCause) (r : Result T (Fault RowCause)) → naming c (refuse t e r) ≡ refuse t (record { cause = e.cause; cabinet = Some c; file = e.file }) (naming c r)
 naming-refuse c true e r = refl
 naming-refuse c false e r = refl
 
@@ -30,7 +31,7 @@ naming_held c d f n Empty = refl
 naming_held c d f n Condemned = refl
 naming_held c d f n (Held bs) = naming-refuse c (ltb n (length bs)) _ _
 
-leaves-naming : {T X : Type 0} (c : ℕ) (r : Result T RowFault) (old new : X) → leaves (naming c r) old new ≡ leaves r old new
+leaves-naming : {T X : Type 0} (c : ℕ) (r : Result T (Fault RowCause)) (old new : X) → leaves (naming c r) old new ≡ leaves r old new
 leaves-naming c (Ok x) old new = refl
 leaves-naming c (Err e) old new = refl
 
@@ -120,10 +121,10 @@ module _ (a b : RowModel) (c : ℕ) (below : c < 16) where
     unfolding piled
     second_slot f = rw (low, past_first)
 
-    naming_cabinet : {T : Type 0} (next : Result T RowFault) → naming c (of_cabinet b (c - a.count) next) ≡ of_cabinet (piled a b) c (naming c next)
+    naming_cabinet : {T : Type 0} (next : Result T (Fault RowCause)) → naming c (of_cabinet b (c - a.count) next) ≡ of_cabinet (piled a b) c (naming c next)
     naming_cabinet next = naming-refuse c (leb b.count (c - a.count)) _ next ∙ ap (λ t. refuse t (cabinet_fault cause.NoCabinet c) (naming c next)) same_there
 
-    naming-slot : {T : Type 0} (f : ℕ) (next : Result T RowFault) → naming c (of_slot b (c - a.count) f next) ≡ of_slot (piled a b) c f (naming c next)
+    naming-slot : {T : Type 0} (f : ℕ) (next : Result T (Fault RowCause)) → naming c (of_slot b (c - a.count) f next) ≡ of_slot (piled a b) c f (naming c next)
     naming-slot f next =
         naming-refuse c (leb b.count (c - a.count)) _ _
         ∙ ap (λ t. refuse t (slot_fault cause.NoCabinet c f) (naming c (refuse (leb 8 f) (slot_fault cause.NoFile (c - a.count) f) next))) same_there
@@ -138,7 +139,7 @@ module _ (a b : RowModel) (c : ℕ) (below : c < 16) where
     pub second_slot_answer : (f : ℕ) → naming c (slot_answer b (c - a.count) f) ≡ slot_answer (piled a b) c f
     second_slot_answer f = naming-slot f (Ok tt)
 
-    away : {T : Type 0} (f : ℕ) (r s : Result T RowFault) → naming c r ≡ s →
+    away : {T : Type 0} (f : ℕ) (r s : Result T (Fault RowCause)) → naming c r ≡ s →
         naming c (refuse (not (b.reach (c - a.count))) (slot_fault cause.OutOfReach (c - a.count) f) r) ≡ refuse (not ((piled a b).reach c)) (slot_fault cause.OutOfReach c f) s
     away f r s e =
         naming-refuse c (not (b.reach (c - a.count))) _ r ∙ ap (refuse (not (b.reach (c - a.count))) (slot_fault cause.OutOfReach c f)) e
@@ -200,21 +201,21 @@ module _ (a b : RowModel) (c : ℕ) (below : c < 16) where
         (λ d g. second_changed (λ d. a.slot d g) (λ d. b.slot d g) Empty Empty (λ d. eqb d c) (λ d. eqb d (c - a.count)) (λ d ne. ne_eqb d c ne) same_cabinet d)
 
 -- no cabinet past the sixteenth
-pub past_all : {T : Type 0} (a b : RowModel) (c : ℕ) (next : Result T RowFault) → 16 ≤ c → of_cabinet (piled a b) c next ≡ Err (cabinet_fault cause.NoCabinet c)
+pub past_all : {T : Type 0} (a b : RowModel) (c : ℕ) (next : Result T (Fault RowCause)) → 16 ≤ c → of_cabinet (piled a b) c next ≡ Err (cabinet_fault cause.NoCabinet c)
 past_all a b c next h = no_cabinet (piled a b) c next (omega (arith, piled_count a b))
 
-pub past_all_slots : {T : Type 0} (a b : RowModel) (c f : ℕ) (next : Result T RowFault) → 16 ≤ c → of_slot (piled a b) c f next ≡ Err (slot_fault cause.NoCabinet c f)
+pub past_all_slots : {T : Type 0} (a b : RowModel) (c f : ℕ) (next : Result T (Fault RowCause)) → 16 ≤ c → of_slot (piled a b) c f next ≡ Err (slot_fault cause.NoCabinet c f)
 past_all_slots a b c f next h = no_cabinet-of_slot (piled a b) c next f (omega (arith, piled_count a b))
 
 -- a call that goes on to the first row
-pub first_call : {T : Type 0} (answer : RowModel → ℕ → Result T RowFault) (change : RowModel → ℕ → RowModel) (c : ℕ) (a b a' : RowModel) (r : Result T RowFault) →
+pub first_call : {T : Type 0} (answer : RowModel → ℕ → Result T (Fault RowCause)) (change : RowModel → ℕ → RowModel) (c : ℕ) (a b a' : RowModel) (r : Result T (Fault RowCause)) →
     r ≡ answer a c → a' ≡ leaves r a (change a c) → answer a c ≡ answer (piled a b) c → piled (change a c) b ≡ change (piled a b) c →
     (r ≡ answer (piled a b) c) × (piled a' b ≡ leaves r (piled a b) (change (piled a b) c))
 first_call answer change c a b a' r is leaves_so same changed =
     (is ∙ same, ap (λ x. piled x b) leaves_so ∙ leaves-through (λ x. piled x b) r a (change a c) ∙ ap (leaves r (piled a b)) changed)
 
 -- a call that goes on to the second row, whose cabinet k it is
-pub second_call : {T : Type 0} (answer : RowModel → ℕ → Result T RowFault) (change : RowModel → ℕ → RowModel) (c k : ℕ) (a b b' : RowModel) (r s : Result T RowFault) →
+pub second_call : {T : Type 0} (answer : RowModel → ℕ → Result T (Fault RowCause)) (change : RowModel → ℕ → RowModel) (c k : ℕ) (a b b' : RowModel) (r s : Result T (Fault RowCause)) →
     k ≡ c - a.count → r ≡ answer b k → b' ≡ leaves r b (change b k) → s ≡ naming c r →
     naming c (answer b (c - a.count)) ≡ answer (piled a b) c → piled a (change b (c - a.count)) ≡ change (piled a b) c →
     (s ≡ answer (piled a b) c) × (piled a b' ≡ leaves s (piled a b) (change (piled a b) c))
@@ -225,7 +226,7 @@ second_call answer change c k a b b' r s e is leaves_so named same changed = (
 )
 
 -- a read that goes on to the second row
-pub second_read : (c k f : ℕ) (a b : RowModel) (buffer after : List ℕ) (r s : Result ℕ RowFault) → k ≡ c - a.count →
+pub second_read : (c k f : ℕ) (a b : RowModel) (buffer after : List ℕ) (r s : Result ℕ (Fault RowCause)) → k ≡ c - a.count →
     r ≡ read_answer b k f (length buffer) → after ≡ leaves r buffer (over (held (b.slot k f)) buffer) → s ≡ naming c r →
     naming c (read_answer b (c - a.count) f (length buffer)) ≡ read_answer (piled a b) c f (length buffer) → b.slot (c - a.count) f ≡ (piled a b).slot c f →
     (s ≡ read_answer (piled a b) c f (length buffer)) × (after ≡ leaves s buffer (over (held ((piled a b).slot c f)) buffer))

@@ -3,7 +3,8 @@ use Rattle.std.specs.Prelude.{◌≡◌, ℕ, ◌+◌, ◌-◌, ◌≤◌, min, 
 use Rattle.std.proofs.Math.Logic.{inl, inr, ⊎_elim}
 use Rattle.std.proofs.Common.{arith}
 use Rattle.std.proofs.lemmas.Bool.{cases_Bool, cases_lt, lt-ltb, le-ltb}
-use Rattle.rows.specs.declared.fault.RowFault.{RowFault}
+use Rattle.rows.specs.declared.fault.Fault.{Fault}
+use Rattle.rows.specs.declared.fault.RowCause.{RowCause}
 use Rattle.rows.specs.Model.{RowModel, Empty, Held, Sound}
 
 -- what p says of the first n cabinets and q of those that follow, up to 16 in all
@@ -20,7 +21,7 @@ piled a b = record {
 }
 
 -- an answer, its refusal about the cabinet of this number
-abbrev pub naming : {T : Type 0} → ℕ → Result T RowFault → Result T RowFault
+abbrev pub naming : {T : Type 0} → ℕ → Result T (Fault RowCause) → Result T (Fault RowCause)
 naming c (Ok x) = Ok x
 naming c (Err e) = Err (record { cause = e.cause; cabinet = Some c; file = e.file })
 

@@ -4,8 +4,9 @@ use Rattle.std.proofs.lemmas.List.{take_at}
 use Rattle.std.proofs.lemmas.Bool.{cases_eq, cases_Bool, and_from, or_parts, or_from, or_left, or_right, not-false, eq-eqb, ne_eqb, eqb-false, le-leb, lt-leb, leb-false, lt-ltb, le-ltb, ltb-false}
 use Rattle.base.proofs.Refusing.{past, passes, stops}
 use Rattle.base.specs.Bytes.{Bytes, over}
+use Rattle.rows.specs.declared.fault.RowCause.{RowCause}
 use Rattle.rows.specs.declared.fault.RowCause.TheVariants as cause
-use Rattle.rows.specs.declared.fault.RowFault.{RowFault}
+use Rattle.rows.specs.declared.fault.Fault.{Fault}
 use Rattle.rows.specs.Model.{RowModel, Slot, Empty, Condemned, Held, Sound, held, with_slot, with_reach, with_new}
 use Rattle.rows.specs.Faults.{cabinet_fault, slot_fault}
 use Rattle.rows.specs.Calls.{of_cabinet, of_slot, cabinet_answer, slot_answer, held_answer, read_answer, write_answer}
@@ -47,7 +48,7 @@ module _ (m : RowModel) (c : ℕ) where
   new_other_slot d g ne = let t : eqb d c ≡ false = ne_eqb d c ne in rw t
 
 -- The checks of a cabinet and of a file.
-module _ {T : Type 0} (m : RowModel) (c : ℕ) (next : Result T RowFault) where
+module _ {T : Type 0} (m : RowModel) (c : ℕ) (next : Result T (Fault RowCause)) where
   pub no_cabinet : m.count ≤ c → of_cabinet m c next ≡ Err (cabinet_fault cause.NoCabinet c)
   no_cabinet h = stops (leb m.count c) _ _ (le-leb _ _ h)
 

@@ -1,7 +1,8 @@
 -- What a call leaves of the row in a memory, from what it leaves of the memory. Assumes nothing.
 use Rattle.std.proofs.Common.{◌≡◌, ℕ, ◌<◌, ◌≤◌, List, length, Result, sym, ap, ◌∙◌, arith}
 use Rattle.base.specs.Answers.{leaves}
-use Rattle.rows.specs.declared.fault.RowFault.{RowFault}
+use Rattle.rows.specs.declared.fault.Fault.{Fault}
+use Rattle.rows.specs.declared.fault.RowCause.{RowCause}
 use Rattle.rows.specs.Calls.{cabinet_answer, slot_answer, write_answer}
 use Rattle.rows.specs.Model.{RowModel}
 use Rattle.base.proofs.Refusing.{leaves_so}
@@ -9,7 +10,7 @@ use Rattle.rows.proofs.Laws.{cabinet_told, slot_told, write_told}
 use Rattle.shelf.specs.Layout.{fitting, shelved}
 use Rattle.shelf.proofs.Slots.{shelved_count, shelved_room}
 
-module _ (xs ys new : List ℕ) (r c : ℕ) (answer : Result Unit RowFault) (end : RowModel) (kept : ys ≡ leaves answer xs new) where
+module _ (xs ys new : List ℕ) (r c : ℕ) (answer : Result Unit (Fault RowCause)) (end : RowModel) (kept : ys ≡ leaves answer xs new) where
   pub cabinet_call : answer ≡ cabinet_answer (shelved xs r) c → (c < fitting (length xs) r → shelved new r ≡ end) → shelved ys r ≡ leaves answer (shelved xs r) end
   cabinet_call is then =
       ap (λ zs. shelved zs r) kept
