@@ -5,5 +5,5 @@ use Rattle.rows.proofs.table.seen_at.Goals as goal
 
 pub returns : goal.returns
 returns g c =
-    c.cell_of.ensures ∙ ap cell_of c.read.ensures.answers
+    c.from.ensures ∙ ap cell_of c.read.ensures.answers
     ∙ read_shown (g.R.ReadRow.model c.args.row.now) c.args.cabinet c.args.file (g.R.ReadRow.sound c.args.row.now)
