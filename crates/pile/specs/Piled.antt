@@ -26,16 +26,15 @@ naming c (Err e) = Err (record { cause = e.cause; cabinet = Some c; file = e.fil
 
 -- Two sound rows make a sound one: the rest of this file is proofs, which the interface asks for with the meaning; nobody
 -- has to believe them.
-module _ (a b : RowModel) (sound_a : Sound a) (sound_b : Sound b) where
-  pub piled_sound : Sound (piled a b)
-  unfolding piled
-  piled_sound = record {
-    few = omega arith;
-    small = omega (arith, sound_a.small);
-    some = λ c f bs e. grind (arith, common_steps, sound_a.some, sound_b.some);
-    most = λ c f bs e. grind (arith, common_steps, sound_a.most, sound_b.most);
-    bytes = λ c f bs e. grind (arith, common_steps, sound_a.bytes, sound_b.bytes);
-    no_reach = λ c h. grind (arith, common_steps, sound_a.few, sound_b.no_reach);
-    no_cabinet = λ c f h. grind (arith, common_steps, sound_a.few, sound_b.no_cabinet);
-    no_file = λ c f h. grind (arith, common_steps, sound_a.no_file, sound_b.no_file);
-  }
+pub piled_sound : (a b : RowModel) → Sound a → Sound b → Sound (piled a b)
+unfolding piled
+piled_sound a b sound_a sound_b = record {
+  few = omega arith;
+  small = omega (arith, sound_a.small);
+  some = λ c f bs e. grind (arith, common_steps, sound_a.some, sound_b.some);
+  most = λ c f bs e. grind (arith, common_steps, sound_a.most, sound_b.most);
+  bytes = λ c f bs e. grind (arith, common_steps, sound_a.bytes, sound_b.bytes);
+  no_reach = λ c h. grind (arith, common_steps, sound_a.few, sound_b.no_reach);
+  no_cabinet = λ c f h. grind (arith, common_steps, sound_a.few, sound_b.no_cabinet);
+  no_file = λ c f h. grind (arith, common_steps, sound_a.no_file, sound_b.no_file);
+}

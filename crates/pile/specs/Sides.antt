@@ -8,7 +8,7 @@ use Rattle.rows.specs.declared.fault.RowCause.TheVariants as cause
 
 -- where the first row has n cabinets, the cabinet c is on a side
 abbrev pub On : ℕ → ℕ → Side → Type 0
-On n c First = (c < n) × (c < 16)
+On n c (First k) = (c < n) × (c < 16) × (k ≡ c)
 On n c (Second k) = (n ≤ c) × (c < 16) × (k ≡ c - n)
 
 -- a cabinet past the sixteenth, and its refusal by a call that names the file too, if it names one

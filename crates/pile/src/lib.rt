@@ -25,9 +25,9 @@ impl<A, B> Pile<A, B> {
     }
 }
 
-// The row of a pile that has a cabinet; of the second, the cabinet's number there.
+// The row of a pile that has a cabinet, with the cabinet's number there.
 enum Side {
-    First,
+    First(usize),
     Second(usize),
 }
 
@@ -39,7 +39,7 @@ impl<A: ReadRow, B: ReadRow> Pile<A, B> {
     {
         let first = self.first.count();
         if cabinet < first {
-            Ok(Side::First)
+            Ok(Side::First(cabinet))
         } else if cabinet < 16 {
             Ok(Side::Second(cabinet - first))
         } else {
@@ -78,14 +78,14 @@ impl<A: ReadRow, B: ReadRow> ReadRow for Pile<A, B> {
 
     fn reach(&self, cabinet: usize) -> Result<bool, RowFault> {
         match self.side(cabinet, None)? {
-            Side::First => self.first.reach(cabinet),
+            Side::First(inner) => self.first.reach(inner),
             Side::Second(inner) => named(self.second.reach(inner), cabinet),
         }
     }
 
     fn read(&self, cabinet: usize, file: usize, buffer: &mut [u8]) -> Result<usize, RowFault> {
         match self.side(cabinet, Some(file))? {
-            Side::First => self.first.read(cabinet, file, buffer),
+            Side::First(inner) => self.first.read(inner, file, buffer),
             Side::Second(inner) => named(self.second.read(inner, file, buffer), cabinet),
         }
     }
@@ -104,42 +104,42 @@ impl<A: Row, B: Row> Row for Pile<A, B> {
             return Err(RowFault::of_slot(RowCause::SizeMisfit, cabinet, file));
         }
         match self.side(cabinet, Some(file))? {
-            Side::First => self.first.write(cabinet, file, bytes),
+            Side::First(inner) => self.first.write(inner, file, bytes),
             Side::Second(inner) => named(self.second.write(inner, file, bytes), cabinet),
         }
     }
 
     fn pull(&mut self, cabinet: usize) -> Result<(), RowFault> {
         match self.side(cabinet, None)? {
-            Side::First => self.first.pull(cabinet),
+            Side::First(inner) => self.first.pull(inner),
             Side::Second(inner) => named(self.second.pull(inner), cabinet),
         }
     }
 
     fn plug(&mut self, cabinet: usize) -> Result<(), RowFault> {
         match self.side(cabinet, None)? {
-            Side::First => self.first.plug(cabinet),
+            Side::First(inner) => self.first.plug(inner),
             Side::Second(inner) => named(self.second.plug(inner), cabinet),
         }
     }
 
     fn swap(&mut self, cabinet: usize) -> Result<(), RowFault> {
         match self.side(cabinet, None)? {
-            Side::First => self.first.swap(cabinet),
+            Side::First(inner) => self.first.swap(inner),
             Side::Second(inner) => named(self.second.swap(inner), cabinet),
         }
     }
 
     fn clear(&mut self, cabinet: usize, file: usize) -> Result<(), RowFault> {
         match self.side(cabinet, Some(file))? {
-            Side::First => self.first.clear(cabinet, file),
+            Side::First(inner) => self.first.clear(inner, file),
             Side::Second(inner) => named(self.second.clear(inner, file), cabinet),
         }
     }
 
     fn condemn(&mut self, cabinet: usize, file: usize) -> Result<(), RowFault> {
         match self.side(cabinet, Some(file))? {
-            Side::First => self.first.condemn(cabinet, file),
+            Side::First(inner) => self.first.condemn(inner, file),
             Side::Second(inner) => named(self.second.condemn(inner, file), cabinet),
         }
     }
