@@ -1,19 +1,23 @@
 -- What each call does to the row in a memory. Assumes nothing.
-use Rattle.std.proofs.Common.{◌≡◌, ℕ, zero, suc, ◌+◌, ◌-◌, ◌^◌, ◌<◌, ◌≤◌, true, false, cond, ◌&&◌, eqb, ltb, ◌⊎◌, List, ◌++◌, length, get_or, take, drop, set, sym, refl, ap, ◌∙◌, subst, inl, inr, ⊎_elim, add-one, arith}
+use Rattle.std.proofs.Common.{◌≡◌, ℕ, zero, suc, ◌+◌, ◌-◌, ◌^◌, ◌<◌, ◌≤◌, Bool, true, false, cond, ◌&&◌, eqb, ltb, ◌⊎◌, List, ◌++◌, Ok, length, get_or, take, drop, set, sym, refl, ap, ◌∙◌, subst, inl, inr, ⊎_elim, arith}
 use Rattle.std.proofs.lemmas.List.{length-set, length-take, length-drop, length-append, length-take-le, get_or_append_left, get_or-append_right, get_or-take, get_or-drop, get_or-set_same, get_or-set_other, drop_at, take_at}
 use Rattle.std.proofs.lemmas.Bool.{cases_Bool, cases_eq, cases_lt, and_right, eq-eqb, ne_eqb, lt-ltb, le-ltb}
+use Rattle.std.proofs.lemmas.Grind.{common_steps}
 use Rattle.base.specs.Bytes.{Bytes, le_bytes, le_value, part, written}
+use Rattle.base.proofs.Parts.{Bytes-part}
 use Rattle.base.proofs.Little.{length-le_bytes, le_value-le_bytes}
 use Rattle.rows.specs.Model.{RowModel, Slot, Empty, Condemned, Held, with_slot, with_reach, with_new}
-use Rattle.rows.proofs.Laws.{same_model}
-use Rattle.shelf.specs.Layout.{fitting, door, place, slot_at, shelved, with_held, with_empty, with_empty_cabinet}
+use Rattle.rows.specs.Calls.{cabinet_answer}
+use Rattle.rows.proofs.Laws.{cabinet_told, same_model}
+use Rattle.shelf.specs.Layout.{fitting, door, place, slot_at, shelved, with_held, with_empty}
+use Rattle.shelf.specs.Slots.{Fits, slot_of, with_stored}
+use Rattle.shelf.specs.declared.slot.Stored.{Stored}
+use Rattle.shelf.specs.declared.slot.Stored.TheVariants as stored
 use Rattle.shelf.specs.Within.{door-within, place-within}
-use Rattle.shelf.proofs.Slots.{part_same, slot_empty, slot_held, slot_condemned, slot-changed, reach-changed}
+use Rattle.shelf.proofs.Slots.{shelved_count, part_same, slot_empty, slot_held, slot_condemned, slot-changed, reach-changed}
 
--- one slot more
-pub with_empty_more : (xs ys : List ℕ) (r c n : ℕ) → ys ≡ with_empty xs r c n → set ys (place r c n) 0 ≡ with_empty xs r c (n + 1)
-unfolding with_empty
-with_empty_more xs ys r c n e = ap (λ zs. set zs (place r c n) 0) e ∙ ap (with_empty xs r c) (sym (add-one n))
+pub bytes_part : (xs : List ℕ) (at n : ℕ) → Bytes xs → Bytes (part xs at n)
+bytes_part xs at n h = Bytes-part xs at n h
 
 -- what an overwritten part leaves, and what it holds
 module _ (xs : List ℕ) (at : ℕ) (ys : List ℕ) (fit : at + length ys ≤ length xs) where
@@ -110,11 +114,19 @@ module _ (xs : List ℕ) (r c f : ℕ) (hc : c < fitting (length xs) r) (hf : f 
   condemned_model = status_model 255 Condemned
       (slot_condemned (set xs (place r c f) 255) r (place r c f) _ refl (λ e. omega (arith, status_is 255)) (inl (λ e. omega (arith, status_is 255))))
 
+-- what is put in a slot
+pub stored_model : (xs : List ℕ) (r c f at : ℕ) (s : Stored) → at ≡ place r c f → c < fitting (length xs) r → f < 8 → r ≤ 6400 → Fits r s →
+    shelved (with_stored xs at s) r ≡ with_slot (shelved xs r) c f (slot_of s)
+stored_model xs r c f at stored.Empty is hc hf small fits = rw is (empty_model xs r c f hc hf)
+stored_model xs r c f at stored.Condemned is hc hf small fits = rw is (condemned_model xs r c f hc hf)
+stored_model xs r c f at (stored.Held bs) is hc hf small fits = rw is (held_model xs bs.now r c f hc hf fits.0 fits.1 small fits.2)
+
 -- a change of a reach
-pub reach_model : (xs : List ℕ) (r c v : ℕ) → c < fitting (length xs) r → shelved (set xs (door r c) v) r ≡ with_reach (shelved xs r) c (eqb v 1)
-reach_model xs r c v hc =
+pub reach_model : (xs : List ℕ) (r c at v : ℕ) (near : Bool) → at ≡ door r c → c < fitting (length xs) r → v ≡ cond near 1 0 → shelved (set xs at v) r ≡ with_reach (shelved xs r) c near
+reach_model xs r c at v near is hc byte =
     let same : get_or (set xs (door r c) v) (door r c) 0 ≡ v = get_or-set_same xs (door r c) v 0 (door-within (length xs) r c hc) in
-    reach-changed xs (set xs (door r c) v) r (length-set xs (door r c) v) c (eqb v 1) hc (λ i ne. get_or-set_other xs (door r c) i v 0 ne) (ap (λ k. eqb k 1) same)
+    let told : eqb v 1 ≡ near = grind arith in
+    rw is (reach-changed xs (set xs (door r c) v) r (length-set xs (door r c) v) c near hc (λ i ne. get_or-set_other xs (door r c) i v 0 ne) (ap (λ k. eqb k 1) same ∙ told))
 
 -- the row with the first n slots of a cabinet empty
 unfoldable emptied : RowModel → ℕ → ℕ → RowModel
@@ -150,17 +162,22 @@ with_empty_model xs r c (suc n) hc hn =
     empty_model (with_empty xs r c n) r c n there (omega arith)
     ∙ ap (λ m. with_slot m c n Empty) (with_empty_model xs r c n hc (omega arith)) ∙ emptied_more (shelved xs r) c n
 
+-- past its files a cabinet has nothing
+no_slot_past : (xs : List ℕ) (r c g : ℕ) → 8 ≤ g → (shelved xs r).slot c g ≡ Empty
+unfolding shelved
+no_slot_past xs r c g h = grind (arith, common_steps)
+
 -- a swap
-pub swapped_model : (xs : List ℕ) (r c : ℕ) → c < fitting (length xs) r → ((g : ℕ) → 8 ≤ g → (shelved xs r).slot c g ≡ Empty) →
-    shelved (with_empty_cabinet xs r c) r ≡ with_new (shelved xs r) c
+pub swapped_model : (xs ys zs : List ℕ) (r q p c : ℕ) → Ok tt ≡ cabinet_answer (shelved xs r) c → ys ≡ set xs (door r c) 1 → zs ≡ with_empty ys q c 8 → q ≡ r → p ≡ q → shelved zs p ≡ with_new (shelved xs r) c
 unfolding emptied
-swapped_model xs r c hc past =
-    let there : c < fitting (length (set xs (door r c) 1)) r = subst (λ k. c < fitting k r) (sym (length-set xs (door r c) 1)) hc in
-    with_empty_model (set xs (door r c) 1) r c 8 there (omega arith)
-    ∙ ap (λ m. emptied m c 8) (reach_model xs r c 1 hc)
+swapped_model xs ys zs r q p c is near empty same_q same_p =
+    let hc : c < fitting (length xs) r = omega (arith, cabinet_told (shelved xs r) c (sym is), shelved_count xs r) in
+    let there : c < fitting (length ys) r = subst (λ k. c < fitting k r) (sym (ap length near ∙ length-set xs (door r c) 1)) hc in
+    rw (same_p, empty, same_q) (with_empty_model ys r c 8 there (omega arith))
+    ∙ ap (λ m. emptied m c 8) (ap (λ ms. shelved ms r) near ∙ reach_model xs r c (door r c) 1 true refl hc refl)
     ∙ same_model _ _ refl refl (λ d. refl) (λ d g. elim (cases_eq d c) [
       | inr ne ↦ let t : eqb d c ≡ false = ne_eqb d c ne in rw t
       | inl e ↦ let t : eqb d c ≡ true = eq-eqb d c e in ⊎_elim
           (λ l. let v : ltb g 8 ≡ true = lt-ltb _ _ l in rw (t, v))
-          (λ l. let v : ltb g 8 ≡ false = le-ltb _ _ l in rw (t, v, e) (past g l)) (cases_lt g 8)
+          (λ l. let v : ltb g 8 ≡ false = le-ltb _ _ l in rw (t, v, e) (no_slot_past xs r c g l)) (cases_lt g 8)
     ])

@@ -1,4 +1,3 @@
 pub mod Apart
 pub mod Slots
 pub mod Changes
-pub mod Calls

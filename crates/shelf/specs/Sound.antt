@@ -6,7 +6,7 @@ use Rattle.std.proofs.lemmas.List.{length-map}
 use Rattle.std.proofs.lemmas.Bool.{cases_Bool, and_parts, and_left, and_right, ltb-true, leb-true, le-ltb}
 use Rattle.base.specs.Bytes.{Bytes, le_value, part}
 use Rattle.rows.specs.Model.{Slot, Empty, Condemned, Held, Sound}
-use Rattle.shelf.specs.Layout.{fitting, place, as_bytes, slot_at, shelved, room_of, shelf_model}
+use Rattle.shelf.specs.Layout.{fitting, place, as_bytes, slot_at, shelved}
 use Rattle.shelf.specs.Within.{place-within}
 
 pub Bytes-as_bytes : (xs : List ℕ) → Bytes (as_bytes xs)
@@ -73,14 +73,13 @@ there_bounded xs r c f = elim (cases_Bool (nat_lt c (fitting (length xs) r) && n
   | inr t ↦ rw t (empty_bounded r)
 ]
 
-pub shelf_sound : (xs : List ℕ) (given : ℕ) → Sound (shelf_model xs given)
+pub shelf_sound : (xs : List ℕ) (r : ℕ) → r ≤ 6400 → Sound (shelved xs r)
 unfolding shelved
-shelf_sound xs given =
-    let r = room_of given in
+shelf_sound xs r small =
     let n = fitting (length xs) r in
     record {
       few = omega arith;
-      small = omega arith;
+      small = small;
       some = λ c f bs e. (there_bounded xs r c f).some bs e;
       most = λ c f bs e. omega (arith, (there_bounded xs r c f).most bs e);
       bytes = λ c f bs e. (there_bounded xs r c f).bytes bs e;
