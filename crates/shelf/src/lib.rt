@@ -224,14 +224,15 @@ impl Row for Shelf<'_> {
         ensures lender { SameShelf self.new self.old }
     {
         holds_bytes(bytes);
-        self.find_slot(cabinet, file)?;
+        let at = self.find_slot(cabinet, file)?;
         if bytes.is_empty() || bytes.len() > self.room {
             return Err(RowFault::of_slot(RowCause::SizeMisfit, cabinet, file));
         }
         if !self.in_reach(cabinet) {
             return Err(RowFault::of_slot(RowCause::OutOfReach, cabinet, file));
         }
-        self.set(cabinet, file, Stored::Held(bytes))
+        put_slot(self.memory, at, Stored::Held(bytes));
+        Ok(())
     }
 
     fn pull(&mut self, cabinet: usize) -> Result<(), RowFault>
