@@ -7,7 +7,7 @@ use Rattle.base.specs.Bytes.{Bytes, le_bytes, le_value, part, written}
 use Rattle.base.proofs.Little.{length-le_bytes, le_value-le_bytes}
 use Rattle.base.proofs.Parts.{Bytes-part}
 use Rattle.rows.specs.Calls.{cabinet_answer}
-use Rattle.rows.specs.Model.{RowModel, Empty, Condemned, Held, with_slot, with_reach, with_new}
+use Rattle.rows.specs.Model.{RowModel, Empty, Held, with_slot, with_reach, with_new}
 use Rattle.rows.proofs.Laws.{cabinet_told, same_model}
 use Rattle.shelf.specs.Layout.{fitting, door, place, slot_at, shelved, with_held, with_empty}
 use Rattle.shelf.specs.Slots.{Fits, slot_of, with_stored}
