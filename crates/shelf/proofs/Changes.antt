@@ -1,15 +1,13 @@
 -- What each call does to the row in a memory. Assumes nothing.
-use Rattle.std.proofs.Common.{◌≡◌, ℕ, zero, suc, ◌+◌, ◌^◌, ◌<◌, ◌≤◌, Bool, true, cond, ◌&&◌, eqb, ltb, ◌⊎◌, List, length, get_or, set, Ok, sym, refl, ap, ◌∙◌, subst, inl, inr, ⊎_elim, arith}
+use Rattle.std.proofs.Common.{◌≡◌, ℕ, ◌+◌, ◌^◌, ◌<◌, ◌≤◌, Bool, cond, eqb, ◌⊎◌, List, length, get_or, set, refl, ap, ◌∙◌, inl, inr, ⊎_elim, arith}
 use Rattle.std.proofs.lemmas.List.{length-set, get_or-set_same, get_or-set_other}
 use Rattle.std.proofs.lemmas.Bool.Decides.{nat_tests}
 use Rattle.std.proofs.lemmas.Grind.{common_steps}
 use Rattle.base.specs.Bytes.{Bytes, le_bytes, le_value, part, written}
 use Rattle.base.proofs.Little.{length-le_bytes, le_value-le_bytes}
 use Rattle.base.proofs.Parts.{Bytes-part}
-use Rattle.rows.specs.Calls.{cabinet_answer}
-use Rattle.rows.specs.Model.{RowModel, Empty, Held, with_slot, with_reach, with_new}
-use Rattle.rows.proofs.Laws.{cabinet_told, same_model}
-use Rattle.shelf.specs.Layout.{fitting, door, place, slot_at, shelved, with_held, with_empty}
+use Rattle.rows.specs.Model.{Held, with_slot, with_reach}
+use Rattle.shelf.specs.Layout.{fitting, door, place, slot_at, shelved, with_held}
 use Rattle.shelf.specs.Slots.{Fits, slot_of, with_stored}
 use Rattle.shelf.specs.Sound.{as_bytes_same}
 use Rattle.shelf.specs.Within.{door-within, place-within}
@@ -107,41 +105,3 @@ reach_model xs r c at v near is hc byte =
     let same : get_or (set xs (door r c) v) (door r c) 0 ≡ v = get_or-set_same xs (door r c) v 0 (door-within (length xs) r c hc) in
     let told : eqb v 1 ≡ near = grind arith in
     rw is (reach-changed xs (set xs (door r c) v) r (length-set xs (door r c) v) c near hc (λ i ne. get_or-set_other xs (door r c) i v 0 ne) (ap (λ k. eqb k 1) same ∙ told))
-
--- the row with the first n slots of a cabinet empty
-unfoldable emptied : RowModel → ℕ → ℕ → RowModel
-emptied m c n = record { count = m.count; room = m.room; reach = m.reach; slot = λ d g. cond (eqb d c && ltb g n) Empty (m.slot d g) }
-
-emptied_none : (m : RowModel) (c : ℕ) → m ≡ emptied m c 0
-unfolding emptied
-emptied_none m c = same_model _ _ refl refl (λ d. refl) (λ d g. grind (arith, nat_tests))
-
-emptied_more : (m : RowModel) (c n : ℕ) → with_slot (emptied m c n) c n Empty ≡ emptied m c (suc n)
-unfolding emptied
-emptied_more m c n = same_model _ _ refl refl (λ d. refl) (λ d g. grind (arith, nat_tests))
-
-length-with_empty : (xs : List ℕ) (r c n : ℕ) → length (with_empty xs r c n) ≡ length xs
-unfolding with_empty
-length-with_empty xs r c zero = refl
-length-with_empty xs r c (suc n) = length-set (with_empty xs r c n) (place r c n) 0 ∙ length-with_empty xs r c n
-
-with_empty_model : (xs : List ℕ) (r c n : ℕ) → r ≤ 6400 → c < fitting (length xs) r → n ≤ 8 → shelved (with_empty xs r c n) r ≡ emptied (shelved xs r) c n
-unfolding with_empty
-with_empty_model xs r c zero small hc hn = emptied_none (shelved xs r) c
-with_empty_model xs r c (suc n) small hc hn =
-    let there : c < fitting (length (with_empty xs r c n)) r = subst (λ k. c < fitting k r) (sym (length-with_empty xs r c n)) hc in
-    put_model (with_empty xs r c n) r c n there (omega arith) stored.Empty small tt
-    ∙ ap (λ m. with_slot m c n Empty) (with_empty_model xs r c n small hc (omega arith)) ∙ emptied_more (shelved xs r) c n
-
--- a cabinet that is swapped
-emptied_all : (xs : List ℕ) (r c : ℕ) → emptied (with_reach (shelved xs r) c true) c 8 ≡ with_new (shelved xs r) c
-unfolding emptied shelved
-emptied_all xs r c = same_model _ _ refl refl (λ d. refl) (λ d g. grind (arith, nat_tests))
-
-pub swapped_model : (xs ys zs : List ℕ) (r q p c : ℕ) → r ≤ 6400 → Ok tt ≡ cabinet_answer (shelved xs r) c → ys ≡ set xs (door r c) 1 → zs ≡ with_empty ys q c 8 → q ≡ r → p ≡ q → shelved zs p ≡ with_new (shelved xs r) c
-unfolding shelved
-swapped_model xs ys zs r q p c small is near empty same_q same_p =
-    let hc : c < fitting (length xs) r = cabinet_told (shelved xs r) c (sym is) in
-    let there : c < fitting (length ys) r = subst (λ k. c < fitting k r) (sym (ap length near ∙ length-set xs (door r c) 1)) hc in
-    rw (same_p, empty, same_q) (with_empty_model ys r c 8 small there (omega arith))
-    ∙ ap (λ m. emptied m c 8) (ap (λ ms. shelved ms r) near ∙ reach_model xs r c (door r c) 1 true refl hc refl) ∙ emptied_all xs r c

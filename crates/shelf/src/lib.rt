@@ -122,19 +122,6 @@ impl<'a> Shelf<'a> {
         Ok(())
     }
 
-    // Empties the first slots of a cabinet that is there.
-    #[tactic(auto, unfolding(crate::specs::Layout::with_empty))]
-    fn empty_slots(&mut self, cabinet: usize, files: usize)
-        requires { (cabinet < fitting (length self.old.memory.now) self.old.room) × (files ≤ 8) }
-        ensures memory { self.new.memory.now ≡ with_empty self.old.memory.now self.old.room cabinet files }
-        ensures lender { SameShelf self.new self.old }
-    {
-        for file in 0..files {
-            let at = self.place(cabinet, file);
-            self.memory[at] = Status::Empty as u8;
-        }
-    }
-
     // Makes a slot have something else.
     #[tactic(auto, using(crate::proofs::Changes::stored_model))]
     fn set(&mut self, cabinet: usize, file: usize, stored: Stored<'_>) -> Result<(), RowFault>
@@ -260,7 +247,9 @@ impl Row for Shelf<'_> {
         ensures lender { SameShelf self.new self.old }
     {
         self.plug(cabinet)?;
-        self.empty_slots(cabinet, 8);
+        for file in 0..8 {
+            self.clear(cabinet, file)?;
+        }
         Ok(())
     }
 
