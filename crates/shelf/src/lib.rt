@@ -2,12 +2,11 @@
 #![tactic(auto)]
 
 ghost use Rattle.std.specs.Prelude.{◌≡◌, ◌<◌, ◌≤◌, length};
-ghost use Rattle.shelf.specs.Slots.{HasRoom, with_stored};
 
 mod slot;
 
 use crate::slot::{Status, Stored};
-use base::{holds_bytes, put_le, u16_at};
+use base::{holds_bytes, u16_at};
 use rows::fault::{RowCause, RowFault};
 use rows::row::{ReadRow, Row};
 
@@ -132,24 +131,8 @@ impl<'a> Shelf<'a> {
         ensures lender { SameShelf self.new self.old }
     {
         let at = self.find_slot(cabinet, file)?;
-        put_slot(self.memory, at, stored);
+        stored.put(self.memory, at);
         Ok(())
-    }
-}
-
-// Makes the slot at a place have something else.
-fn put_slot(memory: &mut [u8], at: usize, stored: Stored<'_>)
-    requires { (at < length memory.old) × HasRoom (length memory.old) at stored }
-    ensures { memory.new ≡ with_stored memory.old at stored.entry }
-{
-    match stored {
-        Stored::Empty => memory[at] = Status::Empty as u8,
-        Stored::Condemned => memory[at] = Status::Condemned as u8,
-        Stored::Held(bytes) => {
-            memory[at] = Status::Held as u8;
-            put_le(memory, at + 1, 2, bytes.len() as u32);
-            memory[at + 3..at + 3 + bytes.len()].copy_from_slice(bytes);
-        }
     }
 }
 
@@ -218,7 +201,7 @@ impl Row for Shelf<'_> {
         if !self.in_reach(cabinet) {
             return Err(RowFault::of_slot(RowCause::OutOfReach, cabinet, file));
         }
-        put_slot(self.memory, at, Stored::Held(bytes));
+        Stored::Held(bytes).put(self.memory, at);
         Ok(())
     }
 
