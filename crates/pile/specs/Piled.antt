@@ -1,10 +1,10 @@
 -- Two rows end to end. Assumes nothing.
-use Rattle.std.specs.Prelude.{◌≡◌, ℕ, ◌+◌, ◌-◌, ◌≤◌, min, true, false, cond, ltb, ◌⊎◌, List, Some, Ok, Err, Result, nat_lt}
-use Rattle.std.proofs.Math.Logic.{inl, inr, ⊎_elim}
+use Rattle.std.specs.Prelude.{ℕ, ◌+◌, ◌-◌, min, false, cond, Some, Ok, Err, Result, nat_lt}
 use Rattle.std.proofs.Common.{arith}
-use Rattle.std.proofs.lemmas.Bool.{cases_Bool, cases_lt, lt-ltb, le-ltb}
-use Rattle.rows.specs.declared.fault.RowFault.{RowFault}
-use Rattle.rows.specs.Model.{RowModel, Empty, Held, Sound}
+use Rattle.std.proofs.lemmas.Grind.{common_steps}
+use Rattle.rows.specs.declared.fault.Fault.{Fault}
+use Rattle.rows.specs.declared.fault.RowCause.{RowCause}
+use Rattle.rows.specs.Model.{RowModel, Empty, Sound}
 
 -- what p says of the first n cabinets and q of those that follow, up to 16 in all
 abbrev pub end_to_end : {X : Type 0} → ℕ → (ℕ → X) → (ℕ → X) → X → ℕ → X
@@ -20,45 +20,21 @@ piled a b = record {
 }
 
 -- an answer, its refusal about the cabinet of this number
-abbrev pub naming : {T : Type 0} → ℕ → Result T RowFault → Result T RowFault
+abbrev pub naming : {T : Type 0} → ℕ → Result T (Fault RowCause) → Result T (Fault RowCause)
 naming c (Ok x) = Ok x
 naming c (Err e) = Err (record { cause = e.cause; cabinet = Some c; file = e.file })
 
 -- Two sound rows make a sound one: the rest of this file is proofs, which the interface asks for with the meaning; nobody
 -- has to believe them.
-module _ (a b : RowModel) (sound_a : Sound a) (sound_b : Sound b) where
-  -- a slot that holds bytes is one of the two rows'
-  whose : (c f : ℕ) (bs : List ℕ) → (piled a b).slot c f ≡ Held bs → (a.slot c f ≡ Held bs) ⊎ (b.slot (c - a.count) f ≡ Held bs)
-  unfolding piled
-  whose c f bs e = elim (cases_Bool (nat_lt c 16)) [
-    | inr t ↦ let z : Empty ≡ Held bs = rw t at e in inl (cc)
-    | inl t ↦ elim (cases_Bool (nat_lt c a.count)) [ inl u ↦ inl (rw (t, u) at e) | inr u ↦ inr (rw (t, u) at e) ]
-  ]
-
-  none_past : {X : Type 0} (p q : ℕ → X) (none : X) (c : ℕ) → min 16 (a.count + b.count) ≤ c → ((d : ℕ) → b.count ≤ d → q d ≡ none) → end_to_end a.count p q none c ≡ none
-  none_past p q none c h past = ⊎_elim
-      (λ l.
-      let t : ltb c 16 ≡ true = lt-ltb c 16 l in
-      let u : ltb c a.count ≡ false = le-ltb _ _ (omega (arith, sound_a.few)) in
-      rw (t, u) (past (c - a.count) (omega (arith, sound_a.few))))
-      (λ l. let t : ltb c 16 ≡ false = le-ltb c 16 l in rw t) (cases_lt c 16)
-
-  no_file_past : (c f : ℕ) → 8 ≤ f → (piled a b).slot c f ≡ Empty
-  unfolding piled
-  no_file_past c f h = elim (cases_Bool (nat_lt c 16)) [
-    | inr t ↦ rw t
-    | inl t ↦ elim (cases_Bool (nat_lt c a.count)) [ inl u ↦ rw (t, u) (sound_a.no_file c f h) | inr u ↦ rw (t, u) (sound_b.no_file (c - a.count) f h) ]
-  ]
-
-  pub piled_sound : Sound (piled a b)
-  unfolding piled
-  piled_sound = record {
-    few = omega arith;
-    small = omega (arith, sound_a.small);
-    some = λ c f bs e. ⊎_elim (λ q. sound_a.some c f bs q) (λ q. sound_b.some (c - a.count) f bs q) (whose c f bs e);
-    most = λ c f bs e. ⊎_elim (λ q. sound_a.most c f bs q) (λ q. sound_b.most (c - a.count) f bs q) (whose c f bs e);
-    bytes = λ c f bs e. ⊎_elim (λ q. sound_a.bytes c f bs q) (λ q. sound_b.bytes (c - a.count) f bs q) (whose c f bs e);
-    no_reach = λ c h. none_past a.reach b.reach false c h sound_b.no_reach;
-    no_cabinet = λ c f h. none_past (λ d. a.slot d f) (λ d. b.slot d f) Empty c h (λ d k. sound_b.no_cabinet d f k);
-    no_file = no_file_past;
-  }
+pub piled_sound : (a b : RowModel) → Sound a → Sound b → Sound (piled a b)
+unfolding piled
+piled_sound a b sound_a sound_b = record {
+  few = omega arith;
+  small = omega (arith, sound_a.small);
+  some = λ c f bs e. grind (arith, common_steps, sound_a.some, sound_b.some);
+  most = λ c f bs e. grind (arith, common_steps, sound_a.most, sound_b.most);
+  bytes = λ c f bs e. grind (arith, common_steps, sound_a.bytes, sound_b.bytes);
+  no_reach = λ c h. grind (arith, common_steps, sound_a.few, sound_b.no_reach);
+  no_cabinet = λ c f h. grind (arith, common_steps, sound_a.few, sound_b.no_cabinet);
+  no_file = λ c f h. grind (arith, common_steps, sound_a.no_file, sound_b.no_file);
+}

@@ -1,8 +1,9 @@
 // Two rows end to end, as one.
 #![tactic(auto)]
 
-ghost use Rattle.std.specs.Prelude.{◌≡◌, ◌+◌, ◌-◌, ◌≤◌, min};
+ghost use Rattle.std.specs.Prelude.{◌≡◌, MatchResult};
 ghost use Rattle.pile.specs.Piled.{naming, piled, piled_sound};
+ghost use Rattle.pile.specs.Sides.{On, Past};
 
 use rows::fault::{RowCause, RowFault};
 use rows::row::{ReadRow, Row};
@@ -24,80 +25,73 @@ impl<A, B> Pile<A, B> {
     }
 }
 
-fn together(first: usize, second: usize) -> usize
-    requires { (first ≤ 16) × (second ≤ 16) }
-    ensures { result ≡ min 16 (first + second) }
-{
-    (first + second).min(16)
+// The row of a pile that has a cabinet, with the cabinet's number there.
+enum Side {
+    First(usize),
+    Second(usize),
 }
 
-fn smaller(first: usize, second: usize) -> usize
-    ensures { result ≡ min first second }
-{
-    first.min(second)
-}
-
-// The number in the second row of a cabinet that is not one of the first's.
-fn past_first(cabinet: usize, first: usize) -> usize
-    requires { first ≤ cabinet }
-    ensures { result ≡ cabinet - first }
-{
-    cabinet - first
-}
-
-// The answer, its refusal about the cabinet that was named to the pile.
-fn named<T>(answer: Result<T, RowFault>, cabinet: usize) -> Result<T, RowFault>
-    ensures { result ≡ naming cabinet answer }
-{
-    match answer {
-        Ok(x) => Ok(x),
-        Err(fault) => Err(RowFault {
-            cause: fault.cause,
-            cabinet: Some(cabinet),
-            file: fault.file,
-        }),
+impl<A: ReadRow, B: ReadRow> Pile<A, B> {
+    // The side of a cabinet, which the second row may still refuse. Refuses one past the sixteenth, for a call that names
+    // the cabinet and maybe a file.
+    fn side(&self, cabinet: usize, file: Option<usize>) -> Result<Side, RowFault>
+        ensures { MatchResult result (On (A.ReadRow.model self.now.first).count cabinet) (Past cabinet file) }
+    {
+        let first = self.first.count();
+        if cabinet < first {
+            Ok(Side::First(cabinet))
+        } else if cabinet < 16 {
+            Ok(Side::Second(cabinet - first))
+        } else {
+            Err(RowFault {
+                cause: RowCause::NoCabinet,
+                cabinet: Some(cabinet),
+                file,
+            })
+        }
     }
 }
 
+// The second row's answer, its refusal about the cabinet of this number, which was named to the pile.
+fn named<T>(answer: Result<T, RowFault>, number: usize) -> Result<T, RowFault>
+    ensures { result ≡ naming number answer }
+{
+    answer.map_err(|fault| RowFault {
+        cabinet: Some(number),
+        ..fault
+    })
+}
+
+#[tactic(auto, unfolding(crate::specs::Piled::piled))]
 impl<A: ReadRow, B: ReadRow> ReadRow for Pile<A, B> {
     ghost model = { λ p. piled (A.ReadRow.model p.first) (B.ReadRow.model p.second) };
 
     ghost sound = { λ p. piled_sound (A.ReadRow.model p.first) (B.ReadRow.model p.second) (A.ReadRow.sound p.first) (B.ReadRow.sound p.second) };
 
     fn count(&self) -> usize {
-        together(self.first.count(), self.second.count())
+        (self.first.count() + self.second.count()).min(16)
     }
 
     fn room(&self) -> usize {
-        smaller(self.first.room(), self.second.room())
+        self.first.room().min(self.second.room())
     }
 
     fn reach(&self, cabinet: usize) -> Result<bool, RowFault> {
-        let first = self.first.count();
-        if cabinet < first {
-            return self.first.reach(cabinet);
+        match self.side(cabinet, None)? {
+            Side::First(inner) => self.first.reach(inner),
+            Side::Second(inner) => named(self.second.reach(inner), cabinet),
         }
-        if cabinet >= 16 {
-            return Err(RowFault::of_cabinet(RowCause::NoCabinet, cabinet));
-        }
-        named(self.second.reach(past_first(cabinet, first)), cabinet)
     }
 
     fn read(&self, cabinet: usize, file: usize, buffer: &mut [u8]) -> Result<usize, RowFault> {
-        let first = self.first.count();
-        if cabinet < first {
-            return self.first.read(cabinet, file, buffer);
+        match self.side(cabinet, Some(file))? {
+            Side::First(inner) => self.first.read(inner, file, buffer),
+            Side::Second(inner) => named(self.second.read(inner, file, buffer), cabinet),
         }
-        if cabinet >= 16 {
-            return Err(RowFault::of_slot(RowCause::NoCabinet, cabinet, file));
-        }
-        named(
-            self.second.read(past_first(cabinet, first), file, buffer),
-            cabinet,
-        )
     }
 }
 
+#[tactic(auto, unfolding(crate::specs::Piled::piled))]
 impl<A: Row, B: Row> Row for Pile<A, B> {
     fn write(&mut self, cabinet: usize, file: usize, bytes: &[u8]) -> Result<(), RowFault> {
         if cabinet >= self.count() {
@@ -109,71 +103,44 @@ impl<A: Row, B: Row> Row for Pile<A, B> {
         if bytes.len() > self.room() {
             return Err(RowFault::of_slot(RowCause::SizeMisfit, cabinet, file));
         }
-        let first = self.first.count();
-        if cabinet < first {
-            return self.first.write(cabinet, file, bytes);
+        match self.side(cabinet, Some(file))? {
+            Side::First(inner) => self.first.write(inner, file, bytes),
+            Side::Second(inner) => named(self.second.write(inner, file, bytes), cabinet),
         }
-        named(
-            self.second.write(past_first(cabinet, first), file, bytes),
-            cabinet,
-        )
     }
 
     fn pull(&mut self, cabinet: usize) -> Result<(), RowFault> {
-        let first = self.first.count();
-        if cabinet < first {
-            return self.first.pull(cabinet);
+        match self.side(cabinet, None)? {
+            Side::First(inner) => self.first.pull(inner),
+            Side::Second(inner) => named(self.second.pull(inner), cabinet),
         }
-        if cabinet >= 16 {
-            return Err(RowFault::of_cabinet(RowCause::NoCabinet, cabinet));
-        }
-        named(self.second.pull(past_first(cabinet, first)), cabinet)
     }
 
     fn plug(&mut self, cabinet: usize) -> Result<(), RowFault> {
-        let first = self.first.count();
-        if cabinet < first {
-            return self.first.plug(cabinet);
+        match self.side(cabinet, None)? {
+            Side::First(inner) => self.first.plug(inner),
+            Side::Second(inner) => named(self.second.plug(inner), cabinet),
         }
-        if cabinet >= 16 {
-            return Err(RowFault::of_cabinet(RowCause::NoCabinet, cabinet));
-        }
-        named(self.second.plug(past_first(cabinet, first)), cabinet)
     }
 
     fn swap(&mut self, cabinet: usize) -> Result<(), RowFault> {
-        let first = self.first.count();
-        if cabinet < first {
-            return self.first.swap(cabinet);
+        match self.side(cabinet, None)? {
+            Side::First(inner) => self.first.swap(inner),
+            Side::Second(inner) => named(self.second.swap(inner), cabinet),
         }
-        if cabinet >= 16 {
-            return Err(RowFault::of_cabinet(RowCause::NoCabinet, cabinet));
-        }
-        named(self.second.swap(past_first(cabinet, first)), cabinet)
     }
 
     fn clear(&mut self, cabinet: usize, file: usize) -> Result<(), RowFault> {
-        let first = self.first.count();
-        if cabinet < first {
-            return self.first.clear(cabinet, file);
+        match self.side(cabinet, Some(file))? {
+            Side::First(inner) => self.first.clear(inner, file),
+            Side::Second(inner) => named(self.second.clear(inner, file), cabinet),
         }
-        if cabinet >= 16 {
-            return Err(RowFault::of_slot(RowCause::NoCabinet, cabinet, file));
-        }
-        named(self.second.clear(past_first(cabinet, first), file), cabinet)
     }
 
     fn condemn(&mut self, cabinet: usize, file: usize) -> Result<(), RowFault> {
-        let first = self.first.count();
-        if cabinet < first {
-            return self.first.condemn(cabinet, file);
+        match self.side(cabinet, Some(file))? {
+            Side::First(inner) => self.first.condemn(inner, file),
+            Side::Second(inner) => named(self.second.condemn(inner, file), cabinet),
         }
-        if cabinet >= 16 {
-            return Err(RowFault::of_slot(RowCause::NoCabinet, cabinet, file));
-        }
-        named(
-            self.second.condemn(past_first(cabinet, first), file),
-            cabinet,
-        )
     }
 }

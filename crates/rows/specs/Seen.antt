@@ -2,7 +2,7 @@
 use Rattle.std.specs.Prelude.{ℕ, cond, ◌&&◌, length, Ok, Err, Result, nat_lt}
 use Rattle.rows.specs.declared.fault.RowCause.{RowCause}
 use Rattle.rows.specs.declared.fault.RowCause.TheVariants.{NoCabinet, NoFile, OutOfReach, Condemned, Empty, SizeMisfit, BufferShort}
-use Rattle.rows.specs.declared.fault.RowFault.{RowFault}
+use Rattle.rows.specs.declared.fault.Fault.{Fault}
 use Rattle.rows.specs.declared.table.Cell.{Cell}
 use Rattle.rows.specs.declared.table.Cell.TheVariants as cell
 use Rattle.rows.specs.Model as row
@@ -18,7 +18,7 @@ cause_cell SizeMisfit = cell.Hidden
 cause_cell BufferShort = cell.Hidden
 
 -- what an answer tells of a slot that was read
-abbrev pub cell_of : Result ℕ RowFault → Cell
+abbrev pub cell_of : Result ℕ (Fault RowCause) → Cell
 cell_of (Ok n) = cell.Holds n
 cell_of (Err e) = cause_cell e.cause
 

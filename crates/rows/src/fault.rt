@@ -1,4 +1,4 @@
-ghost use Rattle.std.specs.Prelude.{◌≡◌};
+ghost use Rattle.std.specs.Prelude.{◌≡◌, ℕ};
 ghost use Rattle.rows.specs.Faults.{cabinet_fault, row_number, slot_fault};
 
 use std::fmt;
@@ -19,19 +19,41 @@ pub enum RowCause {
     BufferShort,
 }
 
-// A refusal of a row: its cause, and the cabinet and the file that the call named, if it named any.
+// Why a layer refuses a call.
+pub trait Cause: Copy {
+    // the number of the cause
+    ghost number_of: { Self → ℕ };
+
+    // the layer that refused
+    ghost layer_of: { Self → ℕ };
+
+    // The number of the cause.
+    fn number(self) -> u16
+        ensures { result ≡ number_of self };
+
+    // The layer that refused: 1 rows, 2 slices, 3 sealing, 4 the site.
+    fn layer(self) -> u8
+        ensures { result ≡ layer_of self };
+}
+
+// A refusal: its cause, and the cabinet and the file that the call named, if it named any.
 #[derive(Clone, Copy, PartialEq, Eq, Debug)]
-pub struct RowFault {
-    pub cause: RowCause,
+pub struct Fault<C> {
+    pub cause: C,
     pub cabinet: Option<usize>,
     pub file: Option<usize>,
 }
 
-impl RowCause {
-    // The number of the cause, 1 to 7.
-    pub fn number(self) -> u16
-        ensures { result ≡ row_number self }
-    {
+// A refusal of a row.
+pub type RowFault = Fault<RowCause>;
+
+// The numbers of a row's causes are 1 to 7; rows are layer 1.
+impl Cause for RowCause {
+    ghost number_of = { row_number };
+
+    ghost layer_of = { λ c. 1 };
+
+    fn number(self) -> u16 {
         match self {
             RowCause::NoCabinet => 1,
             RowCause::NoFile => 2,
@@ -42,14 +64,18 @@ impl RowCause {
             RowCause::BufferShort => 7,
         }
     }
+
+    fn layer(self) -> u8 {
+        1
+    }
 }
 
-impl RowFault {
+impl<C> Fault<C> {
     // A refusal of a call that names a cabinet.
-    pub fn of_cabinet(cause: RowCause, cabinet: usize) -> RowFault
+    pub fn of_cabinet(cause: C, cabinet: usize) -> Self
         ensures { result ≡ cabinet_fault cause cabinet }
     {
-        RowFault {
+        Fault {
             cause,
             cabinet: Some(cabinet),
             file: None,
@@ -57,28 +83,30 @@ impl RowFault {
     }
 
     // A refusal of a call that names a cabinet and a file.
-    pub fn of_slot(cause: RowCause, cabinet: usize, file: usize) -> RowFault
+    pub fn of_slot(cause: C, cabinet: usize, file: usize) -> Self
         ensures { result ≡ slot_fault cause cabinet file }
     {
-        RowFault {
+        Fault {
             cause,
             cabinet: Some(cabinet),
             file: Some(file),
         }
     }
+}
 
+impl<C: Cause> Fault<C> {
     // The number of the refusal, that of its cause.
     pub fn number(self) -> u16
-        ensures { result ≡ row_number self.cause }
+        ensures { result ≡ C.number_of self.cause }
     {
         self.cause.number()
     }
 
-    // The layer that refused: rows are layer 1.
+    // The layer that refused.
     pub fn layer(self) -> u8
-        ensures { result ≡ 1 }
+        ensures { result ≡ C.layer_of self.cause }
     {
-        1
+        self.cause.layer()
     }
 }
 
@@ -96,7 +124,7 @@ impl fmt::Display for RowCause {
     }
 }
 
-impl fmt::Display for RowFault {
+impl<C: Cause + fmt::Display> fmt::Display for Fault<C> {
     fn fmt<W: fmt::Write>(&self, f: &mut fmt::Formatter<W>) -> fmt::Result {
         let number = self.number();
         let cause = self.cause;

@@ -16,16 +16,31 @@ pub enum Cell {
     Holds(usize),
 }
 
-fn cell_of(answer: Result<usize, RowFault>) -> Cell
-    ensures { result ≡ cell_of answer }
-{
-    match answer {
-        Ok(n) => Cell::Holds(n),
-        Err(fault) => match fault.cause {
-            RowCause::Condemned => Cell::Condemned,
-            RowCause::Empty => Cell::Empty,
-            _ => Cell::Hidden,
-        },
+// What a read into a buffer that is long enough tells of a slot.
+impl From<Result<usize, RowFault>> for Cell {
+    ghost from_gives = { λ answer cell. cell ≡ cell_of answer };
+
+    fn from(answer: Result<usize, RowFault>) -> Cell {
+        match answer {
+            Ok(n) => Cell::Holds(n),
+            Err(fault) => match fault.cause {
+                RowCause::Condemned => Cell::Condemned,
+                RowCause::Empty => Cell::Empty,
+                _ => Cell::Hidden,
+            },
+        }
+    }
+}
+
+// `-` where the slot is empty, nothing where it cannot be seen, `condemned`, or how many bytes it holds.
+impl fmt::Display for Cell {
+    fn fmt<W: fmt::Write>(&self, f: &mut fmt::Formatter<W>) -> fmt::Result {
+        match *self {
+            Cell::Hidden => f.pad(""),
+            Cell::Empty => f.pad("-"),
+            Cell::Condemned => f.pad("condemned"),
+            Cell::Holds(n) => n.fmt(f),
+        }
     }
 }
 
@@ -34,7 +49,7 @@ pub fn seen_at<R: ReadRow>(row: &R, cabinet: usize, file: usize) -> Cell
     ensures { result ≡ seen (R.ReadRow.model row.now) cabinet file }
 {
     let mut buffer = [0u8; 6400];
-    cell_of(row.read(cabinet, file, &mut buffer))
+    Cell::from(row.read(cabinet, file, &mut buffer))
 }
 
 // A table of a row, cabinets against files. `{table}` writes a line for each cabinet: whether it is in reach, and if it is,
@@ -53,15 +68,6 @@ impl<'a, R: ReadRow> Table<'a, R> {
     }
 }
 
-fn write_cell<W: fmt::Write>(cell: Cell, f: &mut fmt::Formatter<W>) -> fmt::Result {
-    match cell {
-        Cell::Hidden => write!(f, "{:>10}", ""),
-        Cell::Empty => write!(f, "{:>10}", "-"),
-        Cell::Condemned => write!(f, "{:>10}", "condemned"),
-        Cell::Holds(n) => write!(f, "{n:>10}"),
-    }
-}
-
 fn write_line<R: ReadRow, W: fmt::Write>(
     row: &R,
     cabinet: usize,
@@ -73,7 +79,8 @@ fn write_line<R: ReadRow, W: fmt::Write>(
         _ => return writeln!(f, "  away"),
     }
     for file in 0..8usize {
-        write_cell(seen_at(row, cabinet, file), f)?;
+        let cell = seen_at(row, cabinet, file);
+        write!(f, "{cell:>10}")?;
     }
     writeln!(f)
 }

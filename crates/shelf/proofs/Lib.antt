@@ -1,4 +1,4 @@
 pub mod Apart
 pub mod Slots
 pub mod Changes
-pub mod Calls
+pub mod Emptied

@@ -1,4 +1,5 @@
 pub mod Layout
-pub mod Found
+pub mod Slots
+pub mod Shelves
 pub mod Within
 pub mod Sound

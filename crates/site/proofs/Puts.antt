@@ -23,7 +23,8 @@ use Rattle.erasure.specs.Slices.{cut_answer, fault_of, spread_answer}
 use Rattle.erasure.proofs.Reading.{slices_fit}
 use Rattle.erasure.proofs.RecordOf.{record_is}
 use Rattle.erasure.proofs.Weighing.{head_six, length-combined}
-use Rattle.rows.specs.declared.fault.RowFault.{RowFault}
+use Rattle.rows.specs.declared.fault.Fault.{Fault}
+use Rattle.rows.specs.declared.fault.RowCause.{RowCause}
 use Rattle.rows.specs.Calls.{write_answer}
 use Rattle.rows.specs.Model.{RowModel, Sound, Held, with_slot}
 use Rattle.rows.proofs.Laws.{write_accepted}
@@ -57,7 +58,7 @@ module _ (C : Coding) (bytes : ℕ) (slices : List ℕ) (c issue : ℕ) where
       cc s.1
 
   -- what is cut for a cabinet in reach, and written, its slot holds
-  pub record_put : (n f whole : ℕ) (m last : RowModel) (out cut : List ℕ) (answer : Result ℕ SliceFault) (r : Result Unit RowFault) → Sound m → m.reach c ≡ true → f < 8 → record_length C bytes ≤ m.room →
+  pub record_put : (n f whole : ℕ) (m last : RowModel) (out cut : List ℕ) (answer : Result ℕ SliceFault) (r : Result Unit (Fault RowCause)) → Sound m → m.reach c ≡ true → f < 8 → record_length C bytes ≤ m.room →
       answer ≡ Ok whole → answer ≡ cut_answer C n bytes c issue (length out) → cut ≡ leaves answer out (over own out) →
       r ≡ write_answer m c f (length (take (whole - 0) cut)) → last ≡ leaves r m (with_slot m c f (Held (take (whole - 0) cut))) → last ≡ with_slot m c f (Held own)
   record_put n f whole m last out cut answer r sound near hf room ok ea ec er el =

@@ -16,7 +16,8 @@ use Rattle.erasure.proofs.Weighing.{head_six}
 use Rattle.recovery.specs.Answers.{codes_fit, rebuild_answer, rebuild_rest}
 use Rattle.recovery.specs.Formula.{rebuilt, worked_out}
 use Rattle.recovery.proofs.Accepted.{given_past, given_passes}
-use Rattle.rows.specs.declared.fault.RowFault.{RowFault}
+use Rattle.rows.specs.declared.fault.Fault.{Fault}
+use Rattle.rows.specs.declared.fault.RowCause.{RowCause}
 use Rattle.rows.specs.Calls.{write_answer}
 use Rattle.rows.specs.Model.{RowModel, Held, Sound, with_slot}
 use Rattle.rows.proofs.Laws.{write_accepted}
@@ -61,7 +62,7 @@ module _ (C : Coding) (n bytes : ℕ) (positions records : List ℕ) where
 
   module _ (m : RowModel) (sound : Sound m) (c f : ℕ) (there : f < 8) (near : m.reach c ≡ true) (out : List ℕ) (due : length out ≡ record_bytes C bytes) (room : length out ≤ m.room) where
     -- what is rebuilt fills an output of the due length, and the row takes it
-    pub rewritten : (x : ℕ) (last : List ℕ) (after : RowModel) (rebuild : Result ℕ SliceFault) (write : Result Unit RowFault) →
+    pub rewritten : (x : ℕ) (last : List ℕ) (after : RowModel) (rebuild : Result ℕ SliceFault) (write : Result Unit (Fault RowCause)) →
         rebuild ≡ rebuild_answer C n bytes positions records c (length out) → rebuild ≡ Ok x → last ≡ leaves rebuild out (over (rebuilt C bytes positions records c) out) →
         write ≡ write_answer m c f (length last) → after ≡ leaves write m (with_slot m c f (Held last)) →
         after ≡ with_slot m c f (Held (rebuilt C bytes positions records c))

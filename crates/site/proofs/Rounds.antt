@@ -3,7 +3,8 @@ use Rattle.std.proofs.Common.{◌≡◌, ℕ, ◌+◌, ◌<◌, ◌≤◌, Bool,
 use Rattle.std.proofs.lemmas.Bool.{cases_Bool, cases_lt, cases_eq, and_right, lt-ltb, le-ltb, eq-eqb, ne_eqb}
 use Rattle.base.specs.Answers.{leaves}
 use Rattle.base.proofs.Refusing.{leaves_ok}
-use Rattle.rows.specs.declared.fault.RowFault.{RowFault}
+use Rattle.rows.specs.declared.fault.Fault.{Fault}
+use Rattle.rows.specs.declared.fault.RowCause.{RowCause}
 use Rattle.rows.specs.Model.{RowModel, Sound, Slot, Empty, with_new, with_slot}
 use Rattle.rows.specs.Calls.{cabinet_answer, slot_answer}
 use Rattle.rows.proofs.Laws.{same_model, cabinet_accepted, no_cabinet, slot_accepted}
@@ -51,7 +52,7 @@ module _ (m : RowModel) where
           (λ ne. ap (λ b. b && ltb d m.count) (sym (same_below d c ne)))
           (cases_eq d c)
 
-  pub swapped_more : (now last : RowModel) (c : ℕ) (r : Result Unit RowFault) → now ≡ swapped c → r ≡ cabinet_answer now c → last ≡ leaves r now (with_new now c) → last ≡ swapped (c + 1)
+  pub swapped_more : (now last : RowModel) (c : ℕ) (r : Result Unit (Fault RowCause)) → now ≡ swapped c → r ≡ cabinet_answer now c → last ≡ leaves r now (with_new now c) → last ≡ swapped (c + 1)
   swapped_more now last c r e er el =
       let answer : r ≡ cabinet_answer (swapped c) c = er ∙ ap (λ x. cabinet_answer x c) e in
       let after : last ≡ leaves r (swapped c) (with_new (swapped c) c) = el ∙ ap (λ x. leaves r x (with_new x c)) e in
@@ -107,5 +108,5 @@ module _ (m : RowModel) (f : ℕ) (new : ℕ → Slot) where
       (cases_Bool near)
 
 -- what a call leaves that empties a slot of a cabinet in reach
-pub cleared : (m last : RowModel) → Sound m → (c f : ℕ) (r : Result Unit RowFault) → m.reach c ≡ true → f < 8 → r ≡ slot_answer m c f → last ≡ leaves r m (with_slot m c f Empty) → last ≡ with_slot m c f Empty
+pub cleared : (m last : RowModel) → Sound m → (c f : ℕ) (r : Result Unit (Fault RowCause)) → m.reach c ≡ true → f < 8 → r ≡ slot_answer m c f → last ≡ leaves r m (with_slot m c f Empty) → last ≡ with_slot m c f Empty
 cleared m last sound c f r near hf er el = el ∙ leaves_ok r tt m (with_slot m c f Empty) (er ∙ slot_accepted m c f (reached_there m sound c near) hf)

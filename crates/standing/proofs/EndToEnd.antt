@@ -10,7 +10,8 @@ use Rattle.base.specs.Bytes.{over, written}
 use Rattle.base.proofs.Parts.{over_next}
 use Rattle.base.proofs.Pieces.{over_whole, put_part}
 use Rattle.base.proofs.Refusing.{leaves_ok}
-use Rattle.rows.specs.declared.fault.RowFault.{RowFault}
+use Rattle.rows.specs.declared.fault.Fault.{Fault}
+use Rattle.rows.specs.declared.fault.RowCause.{RowCause}
 use Rattle.rows.specs.Calls.{read_answer}
 use Rattle.rows.specs.Model.{RowModel, Slot, Sound, Empty, Condemned, Held, held}
 use Rattle.rows.proofs.Laws.{read_accepted}
@@ -62,7 +63,7 @@ module _ (m : RowModel) (S : Sound m) (f width : ℕ) where
   )
 
   -- one more record
-  pub gather_next : (was now last cs : List ℕ) (i c k : ℕ) (answer : Result ℕ RowFault) → AllByRecursion (Holds m f width) cs → i < length cs → i * width + width ≤ length now → k ≡ width →
+  pub gather_next : (was now last cs : List ℕ) (i c k : ℕ) (answer : Result ℕ (Fault RowCause)) → AllByRecursion (Holds m f width) cs → i < length cs → i * width + width ≤ length now → k ≡ width →
       c ≡ get_or cs i 0 → now ≡ over (flat_map bytes (take i cs)) was → answer ≡ read_answer m c f (length (take k (drop (i * width) now))) →
       last ≡ leaves answer (take k (drop (i * width) now)) (over (bytes c) (take k (drop (i * width) now))) →
       put_mid (i * width) k now last ≡ over (flat_map bytes (take (i + 1) cs)) was

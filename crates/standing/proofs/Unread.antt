@@ -3,7 +3,8 @@ use Rattle.std.proofs.Common.{◌≡◌, ℕ, true, not, ltb, length, Some, Ok, 
 use Rattle.std.proofs.lemmas.Bool.{cases_lt, le-ltb}
 use Rattle.base.proofs.Refusing.{passes}
 use Rattle.erasure.specs.declared.head.Head.{Head}
-use Rattle.rows.specs.declared.fault.RowFault.{RowFault}
+use Rattle.rows.specs.declared.fault.Fault.{Fault}
+use Rattle.rows.specs.declared.fault.RowCause.{RowCause}
 use Rattle.rows.specs.declared.fault.RowCause.TheVariants as cause
 use Rattle.rows.specs.Calls.{held_answer, read_answer}
 use Rattle.rows.specs.Faults.{slot_fault}
@@ -14,7 +15,7 @@ use Rattle.standing.specs.Standing.{slot_cause}
 use Rattle.standing.specs.Unread.{unread_cause}
 use Rattle.standing.proofs.Laws.{reached_there}
 
-module _ (m : RowModel) (S : Sound m) (due : Head) (c f : ℕ) (e : RowFault) (near : m.reach c ≡ true) where
+module _ (m : RowModel) (S : Sound m) (due : Head) (c f : ℕ) (e : Fault RowCause) (near : m.reach c ≡ true) where
   of_slot : (s : Slot) → m.slot c f ≡ s → held_answer s c f 6400 ≡ Err e → Some (unread_cause e.cause) ≡ slot_cause due s
   of_slot Empty is h = let w : slot_fault cause.Empty c f ≡ e = cc in ap (λ x. Some (unread_cause x.cause)) (sym w)
   of_slot Condemned is h = let w : slot_fault cause.Condemned c f ≡ e = cc in ap (λ x. Some (unread_cause x.cause)) (sym w)
@@ -31,5 +32,5 @@ module _ (m : RowModel) (S : Sound m) (due : Head) (c f : ℕ) (e : RowFault) (n
       ap (λ x. Some (unread_cause x.cause)) (sym w) ∙ ap (slot_cause due) (sym (S.no_file c f l)))
       (cases_lt f 8)
 
-  pub unread_is : (why : Cause) (answer : Result ℕ RowFault) → why ≡ unread_cause e.cause → answer ≡ read_answer m c f 6400 → answer ≡ Err e → Some why ≡ slot_cause due (m.slot c f)
+  pub unread_is : (why : Cause) (answer : Result ℕ (Fault RowCause)) → why ≡ unread_cause e.cause → answer ≡ read_answer m c f 6400 → answer ≡ Err e → Some why ≡ slot_cause due (m.slot c f)
   unread_is why answer w a h = ap Some w ∙ of_read (sym a ∙ h)

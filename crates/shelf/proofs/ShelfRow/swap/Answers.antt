@@ -1,23 +1,34 @@
-use Rattle.std.proofs.Common.{◌≡◌, ap, ◌∙◌, rules}
+use Rattle.std.proofs.Common.{sym, refl, ap, ◌∙◌, arith}
+use Rattle.rows.proofs.Laws.{cabinet_told}
+use Rattle.shelf.specs.Layout.{with_empty}
+use Rattle.shelf.specs.Shelves.{row_of}
 use Rattle.shelf.specs.Sound.{shelf_sound}
-use Rattle.base.specs.Answers.{leaves}
-use Rattle.rows.specs.Calls.{cabinet_answer}
-use Rattle.shelf.specs.Layout.{room_of, shelved, with_empty_cabinet}
-use Rattle.shelf.proofs.Calls.{cabinet_call}
-use Rattle.shelf.proofs.Changes.{swapped_model}
+use Rattle.shelf.proofs.Emptied.{emptied_none, emptied_more, emptied_all, with_empty_more}
 use Rattle.shelf.proofs.ShelfRow.swap.Goals as goal
 
-pub returns : goal.returns
-returns c =
-    let xs = c.args.self.now.memory.now in
-    let room = c.used_room-room.ensures in
-    let answer = c.swap_in.result in
-    let is : answer ≡ cabinet_answer (shelved xs (room_of c.args.self.now.given)) c.args.cabinet = c.swap_in.ensures.answers ∙ ap (λ r. cabinet_answer (shelved xs r) c.args.cabinet) room in
-    let kept : c.swap_in.new.memory ≡ leaves answer xs (with_empty_cabinet xs (room_of c.args.self.now.given) c.args.cabinet) =
-    c.swap_in.ensures.memory ∙ ap (λ r. leaves answer xs (with_empty_cabinet xs r c.args.cabinet)) room in
+pub loop-file-init : goal.loop-file-init
+unfolding with_empty
+loop-file-init c =
+    let near = c.in_ok-plug.ensures in
     record {
-      answers = is;
-      becomes = cabinet_call xs _ _ (room_of c.args.self.now.given) c.args.cabinet answer _ kept is (λ there. swapped_model xs (room_of c.args.self.now.given) c.args.cabinet there (λ g h. (shelf_sound xs c.args.self.now.given).no_file c.args.cabinet g h));
-      memory = kept;
-      lender = search rules;
+      there = omega (arith, cabinet_told (row_of c.args.self.now) c.args.cabinet (sym near.answers), ap (λ m. m.count) near.becomes);
+      row = emptied_none _ _;
+      memory = refl;
+      lender = (refl, refl);
     }
+
+pub loop-file-preserved : goal.loop-file-preserved
+loop-file-preserved c =
+    let so_far = c.loop-file.invariant in
+    let more = c.in_ok-clear.ensures in
+    record {
+      there = omega (arith, so_far.there, ap (λ m. m.count) more.becomes);
+      row = more.becomes ∙ emptied_more _ _ _ _ so_far.row;
+      memory = more.memory ∙ with_empty_more _ _ _ _ _ _ more.lender.1 so_far.memory;
+      lender = (more.lender.0 ∙ so_far.lender.0, more.lender.1 ∙ so_far.lender.1);
+    }
+
+pub returns-clause-becomes : goal.returns-clause-becomes
+returns-clause-becomes c =
+    let s = c.args.self.now in
+    emptied_all (row_of s) _ _ c.args.cabinet _ ((shelf_sound s.memory.now s.room s.small).no_file c.args.cabinet) c.in_ok-plug.ensures.becomes (omega arith) c.loop-file.invariant.row
