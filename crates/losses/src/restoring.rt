@@ -1,73 +1,74 @@
 // The bay map from the records that the cabinets still hold.
-use crate::shelving::{BAY_MAP, ROOM, write_record};
-use crate::unsealing::{MOST, row, try_unseal};
-use erasure::Plan;
-use recovery::{join, rebuild};
+use aes128::Aes128;
+use anyhow::Error;
+use bay_map::{BAY_MAP, Garage, ROOM, report, try_unseal};
+use gf256::Gf256;
+use owned::{front, join, rebuild};
 use rows::row::{ReadRow, Row};
 
-// Records end to end, and the cabinets that they were read from.
+// Records end to end, and the cabinets that they were read from: two lists of bytes, since joining takes them so.
 #[derive(Drop)]
 struct Found {
     positions: Vec<u8>,
     records: Vec<u8>,
 }
 
-fn read_record<R: ReadRow>(
-    rt: &HostRuntime,
-    position: u8,
-    cabinets: &R,
-    found: &mut Found,
-) -> anyhow::Result<()> {
-    let mut record = vec![in rt.alloc(); 0u8; ROOM]?;
-    match cabinets.read(usize::from(position), BAY_MAP, record.as_mut_slice()) {
-        Ok(n) => {
-            record.truncate(n);
-            found.positions.push(position)?;
-            found.records.extend_from_slice(record.as_slice())?;
-            println!(rt;
-                "  read    the record of cabinet {position}                      {n:>5} bytes"
-            )?;
+impl Found {
+    // Reads a cabinet's record, if it has one that can be read.
+    fn read<R: ReadRow>(
+        &mut self,
+        rt: &HostRuntime,
+        cabinets: &R,
+        position: u8,
+    ) -> anyhow::Result<()> {
+        let mut buffer = [0u8; ROOM];
+        let answer = cabinets.read(usize::from(position), BAY_MAP, &mut buffer);
+        match front(rt.alloc(), &buffer, answer)? {
+            Ok(record) => {
+                self.positions.push(position)?;
+                self.records.extend_from_slice(record.as_slice())?;
+                let what = format!(in rt.alloc(); "the record of cabinet {position}")?;
+                report(rt, "read", what.as_str(), record.len())?;
+            }
+            Err(fault) => println!(rt; "  read    {fault}")?,
         }
-        Err(fault) => println!(rt; "  read    {fault}")?,
+        Ok(())
     }
-    Ok(())
 }
 
 // Reads the records of the first cabinets that have one, until there are as many as the plan needs.
-fn read_records<R: ReadRow>(rt: &HostRuntime, plan: &Plan, cabinets: &R) -> anyhow::Result<Found> {
+fn read_records<R: Row + Drop>(rt: &HostRuntime, garage: &Garage<R>) -> anyhow::Result<Found> {
     let mut found = Found {
         positions: Vec::new(rt.alloc()),
         records: Vec::new(rt.alloc()),
     };
-    for position in 0..plan.fitted().min(16) as u8 {
-        if found.positions.len() < plan.needed() {
-            read_record(rt, position, cabinets, &mut found)?;
+    for position in 0..garage.plan.fitted().min(16) as u8 {
+        if found.positions.len() == garage.plan.needed() {
+            break;
         }
+        found.read(rt, &garage.cabinets, position)?;
     }
     Ok(found)
 }
 
-// Restores a file that was sealed to so many bytes, from the records that can be read.
-pub fn restore<R: ReadRow>(
-    rt: &HostRuntime,
-    plan: &Plan,
-    bytes: usize,
-    cabinets: &R,
-    file: &[u8],
-) -> anyhow::Result<()> {
-    let found = read_records(rt, plan, cabinets)?;
-    let mut package = vec![in rt.alloc(); 0u8; MOST]?;
-    match join::<gf256::Gf256>(
-        plan,
-        bytes,
+// Restores the bay map from the records that can be read.
+pub fn restore<R: Row + Drop>(rt: &HostRuntime, garage: &Garage<R>) -> anyhow::Result<()> {
+    let found = read_records(rt, garage)?;
+    match join::<Gf256>(
+        rt.alloc(),
+        &garage.plan,
+        garage.package.len(),
         found.positions.as_slice(),
         found.records.as_slice(),
-        package.as_mut_slice(),
-    ) {
-        Ok(n) => {
-            package.truncate(n);
-            row(rt, "join", "the package, from these records", n)?;
-            try_unseal::<aes128::Aes128>(rt, "the joined package", package.as_slice(), file)?;
+    )? {
+        Ok(package) => {
+            report(rt, "join", "the package, from these records", package.len())?;
+            try_unseal::<Aes128>(
+                rt,
+                "the joined package",
+                package.as_slice(),
+                garage.file.as_slice(),
+            )?;
         }
         Err(fault) => println!(rt; "  join    {fault}")?,
     }
@@ -75,33 +76,22 @@ pub fn restore<R: ReadRow>(
 }
 
 // Rebuilds the record of a cabinet from those of others, and writes it back.
-pub fn mend<R: Row>(
+pub fn mend<R: Row + Drop>(
     rt: &HostRuntime,
-    plan: &Plan,
-    bytes: usize,
+    garage: &mut Garage<R>,
     cabinet: usize,
-    cabinets: &mut R,
 ) -> anyhow::Result<()> {
-    let found = read_records(rt, plan, cabinets)?;
-    let mut record = vec![in rt.alloc(); 0u8; ROOM]?;
-    match rebuild::<gf256::Gf256>(
-        plan,
-        bytes,
+    let found = read_records(rt, garage)?;
+    let record = rebuild::<Gf256>(
+        rt.alloc(),
+        &garage.plan,
+        garage.package.len(),
         found.positions.as_slice(),
         found.records.as_slice(),
         cabinet,
-        record.as_mut_slice(),
-    ) {
-        Ok(n) => {
-            record.truncate(n);
-            println!(rt;
-                "  rebuild the record of cabinet {cabinet}, from these records  {n:>5} bytes"
-            )?;
-            write_record(rt, cabinet, record.as_slice(), cabinets)
-        }
-        Err(fault) => {
-            println!(rt; "  rebuild {fault}")?;
-            Ok(())
-        }
-    }
+    )?
+    .map_err(Error::msg)?;
+    let what = format!(in rt.alloc(); "the record of cabinet {cabinet}, from these records")?;
+    report(rt, "rebuild", what.as_str(), record.len())?;
+    garage.store(rt, cabinet, record.as_slice())
 }

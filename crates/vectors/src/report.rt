@@ -56,8 +56,6 @@ impl<'a> Report<'a> {
 
     // Prints the counts.
     pub fn end(&self) -> io::Result<()> {
-        let right = self.right;
-        let wrong = self.wrong;
-        println!(self.rt; "{right} ok, {wrong} wrong")
+        println!(self.rt; "{} ok, {} wrong", self.right, self.wrong)
     }
 }
