@@ -4,7 +4,7 @@ use algebra::Field;
 use anyhow::{Context, Error, Result, ensure};
 use cipher::Cipher;
 use erasure::Plan;
-use owned::{cut, join, rebuild, seal, unseal};
+use owned::{Found, cut, seal, unseal};
 use std::alloc::Global;
 
 // A package, and the record that each cabinet of a plan keeps of it.
@@ -32,12 +32,13 @@ impl Entry {
         })
     }
 
-    // The records of some cabinets, end to end.
-    fn records_at(&self, alloc: Global, positions: &[u8]) -> Result<Vec<u8>> {
-        let mut found = Vec::new(alloc);
+    // The records of some cabinets.
+    fn records_at(&self, alloc: Global, positions: &[u8]) -> Result<Found> {
+        let mut found = Found::new(alloc, self.plan, self.package.len());
         for position in positions {
             let record = self.records.get(usize::from(*position));
-            found.extend_from_slice(record.context("no such cabinet is fitted")?.as_slice())?;
+            let record = record.context("no such cabinet is fitted")?;
+            found.add(*position, record.as_slice())?;
         }
         Ok(found)
     }
@@ -49,10 +50,8 @@ impl Entry {
         case: &Case,
         file: &[u8],
     ) -> Result<()> {
-        let bytes = self.package.len();
         let found = self.records_at(alloc, case.joined)?;
-        let found = found.as_slice();
-        let joined = join::<F>(alloc, &self.plan, bytes, case.joined, found)?.map_err(Error::msg)?;
+        let joined = found.join::<F>(alloc)?.map_err(Error::msg)?;
         ensure!(
             joined == self.package,
             "records were joined to another package"
@@ -63,11 +62,8 @@ impl Entry {
             "a package was unsealed to another file"
         );
         for (cabinet, record) in self.records.iter().enumerate() {
-            let rebuilt = rebuild::<F>(alloc, &self.plan, bytes, case.joined, found, cabinet)?;
-            ensure!(
-                rebuilt.map_err(Error::msg)? == *record,
-                "a record was rebuilt to another one"
-            );
+            let rebuilt = found.rebuild::<F>(alloc, cabinet)?.map_err(Error::msg)?;
+            ensure!(rebuilt == *record, "a record was rebuilt to another one");
         }
         Ok(())
     }

@@ -3,50 +3,37 @@ use aes128::Aes128;
 use anyhow::Error;
 use bay_map::{BAY_MAP, Garage, ROOM, report, try_unseal};
 use gf256::Gf256;
-use owned::{front, join, rebuild};
+use owned::{Found, front};
 use rows::row::{ReadRow, Row};
 
-// Records end to end, and the cabinets that they were read from: two lists of bytes, since joining takes them so.
-#[derive(Drop)]
-struct Found {
-    positions: Vec<u8>,
-    records: Vec<u8>,
-}
-
-impl Found {
-    // Reads a cabinet's record, if it has one that can be read.
-    fn read<R: ReadRow>(
-        &mut self,
-        rt: &HostRuntime,
-        cabinets: &R,
-        position: u8,
-    ) -> anyhow::Result<()> {
-        let mut buffer = [0u8; ROOM];
-        let answer = cabinets.read(usize::from(position), BAY_MAP, &mut buffer);
-        match front(rt.alloc(), &buffer, answer)? {
-            Ok(record) => {
-                self.positions.push(position)?;
-                self.records.extend_from_slice(record.as_slice())?;
-                let what = format!(in rt.alloc(); "the record of cabinet {position}")?;
-                report(rt, "read", what.as_str(), record.len())?;
-            }
-            Err(fault) => println!(rt; "  read    {fault}")?,
+// Reads a cabinet's record, and says why where it has none that can be read.
+fn read_record<R: ReadRow>(
+    rt: &HostRuntime,
+    cabinets: &R,
+    position: u8,
+    found: &mut Found,
+) -> anyhow::Result<()> {
+    let mut buffer = [0u8; ROOM];
+    let answer = cabinets.read(usize::from(position), BAY_MAP, &mut buffer);
+    match front(rt.alloc(), &buffer, answer)? {
+        Ok(record) => {
+            found.add(position, record.as_slice())?;
+            let what = format!(in rt.alloc(); "the record of cabinet {position}")?;
+            report(rt, "read", what.as_str(), record.len())?;
         }
-        Ok(())
+        Err(fault) => println!(rt; "  read    {fault}")?,
     }
+    Ok(())
 }
 
 // Reads the records of the first cabinets that have one, until there are as many as the plan needs.
 fn read_records<R: Row + Drop>(rt: &HostRuntime, garage: &Garage<R>) -> anyhow::Result<Found> {
-    let mut found = Found {
-        positions: Vec::new(rt.alloc()),
-        records: Vec::new(rt.alloc()),
-    };
+    let mut found = Found::new(rt.alloc(), garage.plan, garage.package.len());
     for position in 0..garage.plan.fitted().min(16) as u8 {
-        if found.positions.len() == garage.plan.needed() {
+        if found.is_enough() {
             break;
         }
-        found.read(rt, &garage.cabinets, position)?;
+        read_record(rt, &garage.cabinets, position, &mut found)?;
     }
     Ok(found)
 }
@@ -54,21 +41,11 @@ fn read_records<R: Row + Drop>(rt: &HostRuntime, garage: &Garage<R>) -> anyhow::
 // Restores the bay map from the records that can be read.
 pub fn restore<R: Row + Drop>(rt: &HostRuntime, garage: &Garage<R>) -> anyhow::Result<()> {
     let found = read_records(rt, garage)?;
-    match join::<Gf256>(
-        rt.alloc(),
-        &garage.plan,
-        garage.package.len(),
-        found.positions.as_slice(),
-        found.records.as_slice(),
-    )? {
+    match found.join::<Gf256>(rt.alloc())? {
         Ok(package) => {
             report(rt, "join", "the package, from these records", package.len())?;
-            try_unseal::<Aes128>(
-                rt,
-                "the joined package",
-                package.as_slice(),
-                garage.file.as_slice(),
-            )?;
+            let file = garage.file.as_slice();
+            try_unseal::<Aes128>(rt, "the joined package", package.as_slice(), file)?;
         }
         Err(fault) => println!(rt; "  join    {fault}")?,
     }
@@ -82,15 +59,9 @@ pub fn mend<R: Row + Drop>(
     cabinet: usize,
 ) -> anyhow::Result<()> {
     let found = read_records(rt, garage)?;
-    let record = rebuild::<Gf256>(
-        rt.alloc(),
-        &garage.plan,
-        garage.package.len(),
-        found.positions.as_slice(),
-        found.records.as_slice(),
-        cabinet,
-    )?
-    .map_err(Error::msg)?;
+    let record = found
+        .rebuild::<Gf256>(rt.alloc(), cabinet)?
+        .map_err(Error::msg)?;
     let what = format!(in rt.alloc(); "the record of cabinet {cabinet}, from these records")?;
     report(rt, "rebuild", what.as_str(), record.len())?;
     garage.store(rt, cabinet, record.as_slice())

@@ -8,10 +8,13 @@ ghost use Rattle.aont.specs.Seals.{seal_answer, unseal_answer, unsealed};
 ghost use Rattle.erasure.specs.Formula.{record_of};
 ghost use Rattle.erasure.specs.Records.{coding};
 ghost use Rattle.erasure.specs.Slices.{cut_answer};
-ghost use Rattle.recovery.specs.Answers.{join_answer, rebuild_answer};
-ghost use Rattle.recovery.specs.Formula.{package_from, rebuilt};
 ghost use Rattle.owned.specs.Fronts.{front, front_of_zeros, Gives};
 
+mod found;
+#[cfg(test)]
+mod tests;
+
+pub use crate::found::Found;
 use algebra::Field;
 use aont::SealFault;
 use cipher::Cipher;
@@ -85,43 +88,9 @@ pub fn cut<F: Field>(
     front(alloc, &output, answer)
 }
 
-// The package of so many bytes of which these are the records, end to end, of the cabinets at the positions.
-pub fn join<F: Field>(
-    alloc: Global,
-    plan: &Plan,
-    bytes: usize,
-    positions: &[u8],
-    records: &[u8],
-) -> Result<Result<Vec<u8>, SliceFault>, AllocError>
-    ensures { IfOk result (Gives (front_of_zeros (join_answer (coding F.ops F.width F.stored F.number plan.now.k) plan.now.n bytes positions.now records.now 4128) (package_from (coding F.ops F.width F.stored F.number plan.now.k) bytes positions.now records.now) 4128)) }
-{
-    let mut output = [0u8; LONGEST_PACKAGE];
-    let answer = recovery::join::<F>(plan, bytes, positions, records, &mut output);
-    front(alloc, &output, answer)
-}
-
-// A cabinet's record of the package of so many bytes of which these are the records, end to end, of the cabinets at the positions.
-pub fn rebuild<F: Field>(
-    alloc: Global,
-    plan: &Plan,
-    bytes: usize,
-    positions: &[u8],
-    records: &[u8],
-    cabinet: usize,
-) -> Result<Result<Vec<u8>, SliceFault>, AllocError>
-    ensures { IfOk result (Gives (front_of_zeros (rebuild_answer (coding F.ops F.width F.stored F.number plan.now.k) plan.now.n bytes positions.now records.now cabinet 6198) (rebuilt (coding F.ops F.width F.stored F.number plan.now.k) bytes positions.now records.now cabinet) 6198)) }
-{
-    let mut output = [0u8; LONGEST_RECORD];
-    let answer = recovery::rebuild::<F>(plan, bytes, positions, records, cabinet, &mut output);
-    front(alloc, &output, answer)
-}
-
 // A file to try the calls on: as long as a file can be, and its byte i is 7 i modulo 256.
 pub fn counted_file() -> [u8; LONGEST_FILE]
     ensures { (i : ℕ) → i < 4092 → slice_index result i ≡ 7 * i % 256 }
 {
     array::from_fn(|i| (7 * i % 256) as u8)
 }
-
-#[cfg(test)]
-mod tests;
