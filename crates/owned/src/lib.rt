@@ -30,7 +30,8 @@ const LONGEST_PACKAGE: usize = 4128;
 // No record is longer: that of the longest package whole, in GF(65537).
 const LONGEST_RECORD: usize = 6198;
 
-// As much of an output's front as a call answered that it wrote, or the call's refusal.
+// As much of an output's front as a call answered that it wrote, or the call's refusal. It is passed what the call left, and not
+// the call as a closure: so tried, the call's own promises did not reach the proofs of those that pass it.
 pub fn front<E>(
     alloc: Global,
     output: &[u8],
