@@ -1,6 +1,6 @@
 // What is sealed and cut: keys, files, plans and issues, and the cabinets whose records are joined again.
-
-pub const LONGEST_FILE: usize = 4092;
+use owned::LONGEST_FILE;
+use std::fmt;
 
 // The counted file's first bytes, sealed under a key, cut by the plan k, n, and joined from k cabinets in some order.
 #[derive(Clone, Copy)]
@@ -87,11 +87,10 @@ pub const LONGEST: Case = Case {
     joined: &[0],
 };
 
-// The longest file, whose byte i is 7 i modulo 256.
-pub fn counted_file() -> [u8; LONGEST_FILE] {
-    let mut file = [0u8; LONGEST_FILE];
-    for i in 0..LONGEST_FILE {
-        file[i] = (7 * i % 256) as u8;
+// The plan and the issue, as the table has them.
+impl fmt::Display for Case {
+    fn fmt<W: fmt::Write>(&self, f: &mut fmt::Formatter<W>) -> fmt::Result {
+        let Case { k, n, issue, .. } = *self;
+        write!(f, "k {k}\nn {n}\nissue {issue}")
     }
-    file
 }

@@ -4,17 +4,16 @@
 mod sealing;
 mod shelving;
 
+use aes128::Aes128;
+use bay_map::report;
+use speck128::Speck128;
 use std::fs;
 
-fn run(rt: &HostRuntime) -> anyhow::Result<()> {
-    let map = fs::read(rt, "bay-map.txt")?;
-    println!(rt; "The bay map: which sensor is in which bay")?;
-    sealing::row(rt, "read", "bay-map.txt", map.len())?;
-    sealing::show::<aes128::Aes128>(rt, "Sealed with AES-128", map.as_slice())?;
-    sealing::show::<speck128::Speck128>(rt, "Sealed with Speck128/128", map.as_slice())?;
-    shelving::show(rt, map.as_slice())
-}
-
 fn main(rt: HostRuntime) -> anyhow::Result<()> {
-    run(&rt)
+    let map = fs::read(&rt, "bay-map.txt")?;
+    println!(rt; "The bay map: which sensor is in which bay")?;
+    report(&rt, "read", "bay-map.txt", map.len())?;
+    sealing::show::<Aes128>(&rt, "Sealed with AES-128", map.as_slice())?;
+    sealing::show::<Speck128>(&rt, "Sealed with Speck128/128", map.as_slice())?;
+    shelving::show(&rt, map)
 }

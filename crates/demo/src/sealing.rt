@@ -1,67 +1,20 @@
 // A bay map sealed, unsealed, and found unreadable in any other state.
-use aont::{seal, unseal};
+use bay_map::{report, sealed, try_unseal};
 use cipher::Cipher;
-
-// A demonstration's key is fixed, so that its output is; a controller draws a fresh one for each sealing.
-pub const KEY: [u8; 16] = *b"a key drawn once";
-
-// Room for any package, and so for any file.
-pub const MOST: usize = 4128;
-
-pub fn row(rt: &HostRuntime, action: &str, what: &str, bytes: usize) -> anyhow::Result<()> {
-    println!(rt; "  {action:<7} {what:<44} {bytes:>5} bytes")?;
-    Ok(())
-}
-
-// Unseals a package and says what came of it: the file again, another one, or a refusal.
-fn try_unseal<C: Cipher>(
-    rt: &HostRuntime,
-    what: &str,
-    package: &[u8],
-    file: &[u8],
-) -> anyhow::Result<()> {
-    let mut out = vec![in rt.alloc(); 0u8; MOST]?;
-    match unseal::<C>(package, out.as_mut_slice()) {
-        Ok(n) => {
-            let same = n <= out.len() && &out.as_slice()[0..n] == file;
-            let verdict = if same {
-                "the bay map again"
-            } else {
-                "ANOTHER FILE"
-            };
-            println!(rt; "  unseal  {what:<44} {n:>5} bytes: {verdict}")?;
-        }
-        Err(fault) => println!(rt; "  unseal  {what:<44} {fault}")?,
-    }
-    Ok(())
-}
 
 pub fn show<C: Cipher>(rt: &HostRuntime, name: &str, file: &[u8]) -> anyhow::Result<()> {
     println!(rt; "\n{name}")?;
-    let mut package = vec![in rt.alloc(); 0u8; MOST]?;
-    match seal::<C>(&KEY, file, package.as_mut_slice()) {
-        Ok(n) => {
-            row(rt, "seal", "the bay map, under a key that nobody keeps", n)?;
-            package.truncate(n);
-        }
-        Err(fault) => println!(rt; "  seal    {fault}")?,
-    }
+    let mut package = sealed::<C>(rt, file)?;
+    let what = "the bay map, under a key that nobody keeps";
+    report(rt, "seal", what, package.len())?;
     try_unseal::<C>(rt, "the whole package", package.as_slice(), file)?;
-    let n = package.len();
-    if n > 16 {
-        try_unseal::<C>(
-            rt,
-            "without its last block",
-            &package.as_slice()[0..n - 16],
-            file,
-        )?;
-        package[7] = package[7] ^ 1;
-        try_unseal::<C>(
-            rt,
-            "with one bit of byte 7 turned",
-            package.as_slice(),
-            file,
-        )?;
+    if let Some((front, _)) = package.as_slice().split_last_chunk::<16>() {
+        try_unseal::<C>(rt, "without its last block", front, file)?;
     }
+    if let Some(byte) = package.as_mut_slice().get_mut(7) {
+        *byte ^= 1;
+    }
+    let what = "with one bit of byte 7 turned";
+    try_unseal::<C>(rt, what, package.as_slice(), file)?;
     Ok(())
 }

@@ -3,15 +3,10 @@
 
 mod restoring;
 mod shelving;
-mod unsealing;
 
 use std::fs;
 
-fn run(rt: &HostRuntime) -> anyhow::Result<()> {
-    let map = fs::read(rt, "bay-map.txt")?;
-    shelving::show(rt, map.as_slice())
-}
-
 fn main(rt: HostRuntime) -> anyhow::Result<()> {
-    run(&rt)
+    let map = fs::read(&rt, "bay-map.txt")?;
+    shelving::show(&rt, map)
 }

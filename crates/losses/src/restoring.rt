@@ -1,32 +1,25 @@
 // The bay map from the records that the cabinets still hold.
-use crate::shelving::{BAY_MAP, ROOM, write_record};
-use crate::unsealing::{MOST, row, try_unseal};
-use erasure::Plan;
-use recovery::{join, rebuild};
+use aes128::Aes128;
+use anyhow::Error;
+use bay_map::{BAY_MAP, Garage, ROOM, report, try_unseal};
+use gf256::Gf256;
+use owned::{Found, front};
 use rows::row::{ReadRow, Row};
 
-// Records end to end, and the cabinets that they were read from.
-#[derive(Drop)]
-struct Found {
-    positions: Vec<u8>,
-    records: Vec<u8>,
-}
-
+// Reads a cabinet's record, and says why where it has none that can be read.
 fn read_record<R: ReadRow>(
     rt: &HostRuntime,
-    position: u8,
     cabinets: &R,
+    position: u8,
     found: &mut Found,
 ) -> anyhow::Result<()> {
-    let mut record = vec![in rt.alloc(); 0u8; ROOM]?;
-    match cabinets.read(usize::from(position), BAY_MAP, record.as_mut_slice()) {
-        Ok(n) => {
-            record.truncate(n);
-            found.positions.push(position)?;
-            found.records.extend_from_slice(record.as_slice())?;
-            println!(rt;
-                "  read    the record of cabinet {position}                      {n:>5} bytes"
-            )?;
+    let mut buffer = [0u8; ROOM];
+    let answer = cabinets.read(usize::from(position), BAY_MAP, &mut buffer);
+    match front(rt.alloc(), &buffer, answer)? {
+        Ok(record) => {
+            found.add(position, record.as_slice())?;
+            let what = format!(in rt.alloc(); "the record of cabinet {position}")?;
+            report(rt, "read", what.as_str(), record.len())?;
         }
         Err(fault) => println!(rt; "  read    {fault}")?,
     }
@@ -34,40 +27,25 @@ fn read_record<R: ReadRow>(
 }
 
 // Reads the records of the first cabinets that have one, until there are as many as the plan needs.
-fn read_records<R: ReadRow>(rt: &HostRuntime, plan: &Plan, cabinets: &R) -> anyhow::Result<Found> {
-    let mut found = Found {
-        positions: Vec::new(rt.alloc()),
-        records: Vec::new(rt.alloc()),
-    };
-    for position in 0..plan.fitted().min(16) as u8 {
-        if found.positions.len() < plan.needed() {
-            read_record(rt, position, cabinets, &mut found)?;
+fn read_records<R: Row + Drop>(rt: &HostRuntime, garage: &Garage<R>) -> anyhow::Result<Found> {
+    let mut found = Found::new(rt.alloc(), garage.plan, garage.package.len());
+    for position in 0..garage.plan.fitted().min(16) as u8 {
+        if found.is_enough() {
+            break;
         }
+        read_record(rt, &garage.cabinets, position, &mut found)?;
     }
     Ok(found)
 }
 
-// Restores a file that was sealed to so many bytes, from the records that can be read.
-pub fn restore<R: ReadRow>(
-    rt: &HostRuntime,
-    plan: &Plan,
-    bytes: usize,
-    cabinets: &R,
-    file: &[u8],
-) -> anyhow::Result<()> {
-    let found = read_records(rt, plan, cabinets)?;
-    let mut package = vec![in rt.alloc(); 0u8; MOST]?;
-    match join::<gf256::Gf256>(
-        plan,
-        bytes,
-        found.positions.as_slice(),
-        found.records.as_slice(),
-        package.as_mut_slice(),
-    ) {
-        Ok(n) => {
-            package.truncate(n);
-            row(rt, "join", "the package, from these records", n)?;
-            try_unseal::<aes128::Aes128>(rt, "the joined package", package.as_slice(), file)?;
+// Restores the bay map from the records that can be read.
+pub fn restore<R: Row + Drop>(rt: &HostRuntime, garage: &Garage<R>) -> anyhow::Result<()> {
+    let found = read_records(rt, garage)?;
+    match found.join::<Gf256>(rt.alloc())? {
+        Ok(package) => {
+            report(rt, "join", "the package, from these records", package.len())?;
+            let file = garage.file.as_slice();
+            try_unseal::<Aes128>(rt, "the joined package", package.as_slice(), file)?;
         }
         Err(fault) => println!(rt; "  join    {fault}")?,
     }
@@ -75,33 +53,16 @@ pub fn restore<R: ReadRow>(
 }
 
 // Rebuilds the record of a cabinet from those of others, and writes it back.
-pub fn mend<R: Row>(
+pub fn mend<R: Row + Drop>(
     rt: &HostRuntime,
-    plan: &Plan,
-    bytes: usize,
+    garage: &mut Garage<R>,
     cabinet: usize,
-    cabinets: &mut R,
 ) -> anyhow::Result<()> {
-    let found = read_records(rt, plan, cabinets)?;
-    let mut record = vec![in rt.alloc(); 0u8; ROOM]?;
-    match rebuild::<gf256::Gf256>(
-        plan,
-        bytes,
-        found.positions.as_slice(),
-        found.records.as_slice(),
-        cabinet,
-        record.as_mut_slice(),
-    ) {
-        Ok(n) => {
-            record.truncate(n);
-            println!(rt;
-                "  rebuild the record of cabinet {cabinet}, from these records  {n:>5} bytes"
-            )?;
-            write_record(rt, cabinet, record.as_slice(), cabinets)
-        }
-        Err(fault) => {
-            println!(rt; "  rebuild {fault}")?;
-            Ok(())
-        }
-    }
+    let found = read_records(rt, garage)?;
+    let record = found
+        .rebuild::<Gf256>(rt.alloc(), cabinet)?
+        .map_err(Error::msg)?;
+    let what = format!(in rt.alloc(); "the record of cabinet {cabinet}, from these records")?;
+    report(rt, "rebuild", what.as_str(), record.len())?;
+    garage.store(rt, cabinet, record.as_slice())
 }

@@ -1,10 +1,11 @@
 // The published vectors of both ciphers.
-use crate::hex::{Hex, block};
 use crate::report::Report;
 use aes128::Aes128;
+use anyhow::Result;
 use cipher::Cipher;
+use hex::FromHex;
 use speck128::Speck128;
-use std::io;
+use std::fmt;
 
 // One published encryption, in hex.
 #[derive(Clone, Copy)]
@@ -13,6 +14,19 @@ struct Vector {
     key: &'static str,
     block: &'static str,
     answer: &'static str,
+}
+
+// What it is an encryption of, and where it was published.
+impl fmt::Display for Vector {
+    fn fmt<W: fmt::Write>(&self, f: &mut fmt::Formatter<W>) -> fmt::Result {
+        let Vector {
+            source,
+            key,
+            block,
+            ..
+        } = *self;
+        write!(f, "{source:12}  {key}  {block}")
+    }
 }
 
 // the key that appendix A.1 of FIPS 197 expands, and its round keys
@@ -140,42 +154,31 @@ const SPECK_VECTORS: [Vector; 1] = [Vector {
     answer: "180d575cdffe60786532787951985da6",
 }];
 
-fn round_keys(report: &mut Report<'_>) -> io::Result<()> {
+fn round_keys(report: &mut Report<'_>) -> Result<()> {
     report.heading(format_args!("FIPS 197 A.1: the round keys of {EXPANDED_KEY}"))?;
-    let cipher = <Aes128 as Cipher>::with_key(&block(EXPANDED_KEY));
+    let cipher = Aes128::with_key(&<[u8; 16]>::from_hex(EXPANDED_KEY)?);
     for (round, expected) in ROUND_KEYS.iter().enumerate() {
-        report.block("round", round, &cipher.round_key(round), &block(expected))?;
+        report.bytes(
+            format_args!("round {round:3}"),
+            &cipher.round_key(round),
+            expected,
+        )?;
     }
     Ok(())
 }
 
-fn encryption<C: Cipher>(report: &mut Report<'_>, vector: &Vector) -> io::Result<()> {
-    let answer = C::with_key(&block(vector.key)).encrypt(&block(vector.block));
-    let right = answer == block(vector.answer);
-    let source = vector.source;
-    let key = vector.key;
-    let plain = vector.block;
-    let shown = Hex(&answer);
-    report.claim(
-        right,
-        format_args!("  {source:12}  {key}  {plain}  {shown}"),
-    )
-}
-
-fn encryptions<C: Cipher>(
-    report: &mut Report<'_>,
-    name: &str,
-    vectors: &[Vector],
-) -> io::Result<()> {
+fn encryptions<C: Cipher>(report: &mut Report<'_>, name: &str, vectors: &[Vector]) -> Result<()> {
     report.heading(format_args!("{name:14}  {:32}  {:32}  answer", "key", "block"))?;
     for vector in vectors {
-        encryption::<C>(report, vector)?;
+        let cipher = C::with_key(&<[u8; 16]>::from_hex(vector.key)?);
+        let answer = cipher.encrypt(&<[u8; 16]>::from_hex(vector.block)?);
+        report.bytes(vector, &answer, vector.answer)?;
     }
     Ok(())
 }
 
 // Prints the published key expansion and encryptions beside ours.
-pub fn print(report: &mut Report<'_>) -> io::Result<()> {
+pub fn print(report: &mut Report<'_>) -> Result<()> {
     round_keys(report)?;
     report.heading("")?;
     encryptions::<Aes128>(report, "AES-128", &AES_VECTORS)?;

@@ -1,5 +1,5 @@
 // The report as it is printed: what was computed, line for line, and whether it is what it ought to be.
-use crate::hex::Hex;
+use std::alloc::Global;
 use std::fmt::Display;
 use std::io;
 
@@ -20,6 +20,10 @@ impl<'a> Report<'a> {
         }
     }
 
+    pub fn alloc(&self) -> Global {
+        self.rt.alloc()
+    }
+
     // Prints a line that claims nothing.
     pub fn heading(&self, line: impl Display + Drop) -> io::Result<()> {
         self.rt.println(line)
@@ -36,25 +40,22 @@ impl<'a> Report<'a> {
         }
     }
 
-    // Prints a block under its name and number, compared with the block that it ought to be.
-    pub fn block(
+    // Prints bytes in hex behind what they are, compared with the hex that they ought to be.
+    pub fn bytes(
         &mut self,
-        name: &str,
-        number: usize,
-        block: &[u8],
-        expected: &[u8],
+        what: impl Display + Drop,
+        bytes: &[u8],
+        expected: &str,
     ) -> io::Result<()> {
-        let shown = Hex(block);
+        let shown = hex::encode(self.alloc(), bytes)?;
         self.claim(
-            block == expected,
-            format_args!("  {name} {number:3}  {shown}"),
+            shown.as_str() == expected,
+            format_args!("  {what}  {shown}"),
         )
     }
 
     // Prints the counts.
     pub fn end(&self) -> io::Result<()> {
-        let right = self.right;
-        let wrong = self.wrong;
-        println!(self.rt; "{right} ok, {wrong} wrong")
+        println!(self.rt; "{} ok, {} wrong", self.right, self.wrong)
     }
 }

@@ -1,14 +1,13 @@
 // The worked columns of docs/FORMATS.md: what a cabinet stores for each, by a cut of a package that begins with it.
 #![tactic(auto)]
 
-mod hex;
-
 use algebra::Field;
-use erasure::{Plan, cut};
+use anyhow::{Context, Error, Result};
+use erasure::Plan;
 use gf256::Gf256;
 use gf65537::Gf65537;
-use hex::Hex;
-use std::io;
+use owned::cut;
+use std::{array, fmt};
 
 // A column, its bytes in a package, and what a cabinet stores for it.
 #[derive(Clone, Copy)]
@@ -18,6 +17,19 @@ struct Worked {
     bytes: &'static [u8],
     cabinet: usize,
     stored: &'static [u8],
+}
+
+// What the cabinet stores a number for.
+impl fmt::Display for Worked {
+    fn fmt<W: fmt::Write>(&self, f: &mut fmt::Formatter<W>) -> fmt::Result {
+        let Worked {
+            k,
+            column,
+            cabinet,
+            ..
+        } = *self;
+        write!(f, "{k}  {column:7}  {cabinet:7}")
+    }
 }
 
 const IN_GF256: [Worked; 2] = [
@@ -54,48 +66,32 @@ const IN_GF65537: [Worked; 2] = [
     },
 ];
 
-// The shortest package that begins with these bytes and has zeros behind them.
-fn package_from(bytes: &[u8]) -> [u8; 48] {
-    let mut package = [0u8; 48];
-    let n = bytes.len().min(48);
-    package[0..n].copy_from_slice(&bytes[0..n]);
-    package
-}
-
-// Cuts the record of the cabinet, and answers whether that was done.
-fn cut_record<F: Field>(worked: &Worked, record: &mut [u8]) -> bool {
-    let package = package_from(worked.bytes);
-    match Plan::new(worked.k, 16) {
-        Ok(plan) => cut::<F>(&plan, &package, worked.cabinet, 1, record).is_ok(),
-        Err(_) => false,
-    }
-}
-
 // Prints the first symbol of the cabinet's record, as it is stored, and whether it is what it ought to be.
-fn stored<F: Field>(rt: &HostRuntime, name: &str, worked: &Worked) -> io::Result<()> {
-    let mut record = [0u8; 48];
-    let right = cut_record::<F>(worked, &mut record);
-    let symbol = &record[6..6 + F::stored_width().min(3)];
-    let k = worked.k;
-    let column = worked.column;
-    let cabinet = worked.cabinet;
-    let shown = Hex(symbol);
-    let verdict = if right && symbol == worked.stored {
+fn stored<F: Field>(rt: &HostRuntime, name: &str, worked: &Worked) -> Result<()> {
+    let plan = Plan::new(worked.k, 16).map_err(Error::msg)?;
+    // the shortest package that begins with these bytes and has zeros behind them
+    let package: [u8; 48] = array::from_fn(|i| worked.bytes.get(i).copied().unwrap_or(0));
+    let record = cut::<F>(rt.alloc(), &plan, &package, worked.cabinet, 1)?.map_err(Error::msg)?;
+    let symbol = record.as_slice().get(6..6 + F::stored_width().min(3));
+    let symbol = symbol.context("a record has no symbol")?;
+    let shown = hex::encode(rt.alloc(), symbol)?;
+    let verdict = if symbol == worked.stored {
         "ok"
     } else {
         "WRONG"
     };
-    println!(rt; "  {name:9}  {k}  {column:7}  {cabinet:7}  {shown}  {verdict}")
+    println!(rt; "  {name:9}  {worked}  {shown}  {verdict}")?;
+    Ok(())
 }
 
-fn all_stored<F: Field>(rt: &HostRuntime, name: &str, columns: &[Worked]) -> io::Result<()> {
+fn all_stored<F: Field>(rt: &HostRuntime, name: &str, columns: &[Worked]) -> Result<()> {
     for worked in columns {
         stored::<F>(rt, name, worked)?;
     }
     Ok(())
 }
 
-fn main(rt: HostRuntime) -> io::Result<()> {
+fn main(rt: HostRuntime) -> Result<()> {
     println!(rt; "field        k  column   cabinet  stored")?;
     all_stored::<Gf256>(&rt, "GF(256)", &IN_GF256)?;
     all_stored::<Gf65537>(&rt, "GF(65537)", &IN_GF65537)

@@ -1,0 +1,45 @@
+// A bay map sealed and unsealed, and the lines that say so.
+ghost use Rattle.std.specs.Prelude.{◌≡◌, Ok, length, IfOk};
+ghost use Rattle.aont.specs.Package.{sealed};
+ghost use Rattle.aont.specs.Seals.{seal_answer};
+ghost use Rattle.owned.specs.Fronts.{front_of_zeros};
+
+use anyhow::Error;
+use cipher::Cipher;
+use std::io;
+
+// A demonstration's key is fixed, so that its output is; a controller draws a fresh one for each sealing.
+pub const KEY: [u8; 16] = *b"a key drawn once";
+
+// Prints what was done, to what, and how many bytes that is; it does nothing else.
+pub fn report(rt: &impl Print, action: &str, what: &str, bytes: usize) -> io::Result<()> {
+    println!(rt; "  {action:<7} {what:<44} {bytes:>5} bytes")
+}
+
+// The package of a bay map, under a key that nobody keeps.
+pub fn sealed<C: Cipher>(rt: &impl AllocGlobal, file: &[u8]) -> anyhow::Result<Vec<u8>>
+    ensures { IfOk result (λ v. front_of_zeros (seal_answer (length file.now) 16 4128) (sealed C.Cipher.encrypted C.Cipher.number KEY file.now) 4128 ≡ Ok v.items) }
+{
+    owned::seal::<C>(rt.alloc(), &KEY, file)?.map_err(Error::msg)
+}
+
+// Unseals a package and prints what came of it: the file again, another one, or a refusal. It does nothing else.
+pub fn try_unseal<C: Cipher>(
+    rt: &(impl Print + AllocGlobal),
+    what: &str,
+    package: &[u8],
+    file: &[u8],
+) -> io::Result<()> {
+    match owned::unseal::<C>(rt.alloc(), package)? {
+        Ok(found) => {
+            let bytes = found.len();
+            let verdict = if found.as_slice() == file {
+                "the bay map again"
+            } else {
+                "ANOTHER FILE"
+            };
+            println!(rt; "  unseal  {what:<44} {bytes:>5} bytes: {verdict}")
+        }
+        Err(fault) => println!(rt; "  unseal  {what:<44} {fault}"),
+    }
+}
