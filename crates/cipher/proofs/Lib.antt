@@ -1,3 +1,4 @@
 pub mod Fills
 pub mod Xor
 pub mod Made
+pub mod Chunks
