@@ -1,22 +1,18 @@
 -- Words of four bytes, and states made of four words. Assumes nothing.
-use Rattle.std.proofs.Common.{◌≡◌, ℕ, zero, suc, ◌+◌, ◌*◌, ◌/◌, ◌%◌, ◌^◌, ◌<◌, List, [], ◌∷◌, map, length, get_or, sym, refl, ap, ◌∙◌, subst, arith}
+use Rattle.std.proofs.Common.{◌≡◌, ℕ, zero, suc, ◌+◌, ◌*◌, ◌/◌, ◌%◌, ◌^◌, ◌<◌, List, [], ◌∷◌, ◌++◌, map, get_or, sym, refl, ap, ◌∙◌, subst, arith}
 use native.Mathlib.Nat.{div-div-eq-div-mul}
 use lib.Bits.{bit_or, bit_xor, xor_lt, xor_mod, xor_shr, xor_zero_r}
-use Rattle.std.specs.Int.{w32, rotate_left, from_le_bytes, to_le_bytes}
+use Rattle.std.specs.Int.{w32, rotate_left, to_le_bytes}
 use Rattle.std.specs.List.{range_with_len}
 use Rattle.std.proofs.lemmas.List.FromFn.{get_or-map-range_with_len}
-use Rattle.std.specs.Simd.{first_chunks}
-use Rattle.std.proofs.lemmas.Nat.{le_bytes_4, or_shifted}
-use Rattle.base.specs.Bytes.{Bytes, le_bytes, le_value, part}
+use Rattle.std.proofs.lemmas.Nat.{or_shifted}
+use Rattle.base.specs.Bytes.{Bytes, le_bytes, le_value}
 use Rattle.base.proofs.Little.{le_bytes-le_value, le_value-le_bytes, le_value-lt}
-use Rattle.base.proofs.Parts.{Bytes-part, length_part}
-use Rattle.base.proofs.Places.{part_at}
 use Rattle.cipher.specs.Blocks.{Block, xor}
-use Rattle.cipher.proofs.Chunks.{chunk_at}
 use Rattle.cipher.proofs.Xor.{block_is_sixteen, sixteen_same}
 use Rattle.aes128.specs.declared.columns.Columns.{Columns}
 use Rattle.aes128.specs.Aes.{sbox, xtime, thrice, mixed, state, sub_bytes, shift_rows, mix_columns, round, last_round}
-use Rattle.aes128.specs.Columns.{byte_in, state_of, shifted}
+use Rattle.aes128.specs.Columns.{byte_in, state_of, shifted, word_at}
 use Rattle.aes128.specs.Sizes.{sbox_byte, xtime_byte, thrice_byte}
 
 abbrev pub xors : List ℕ → List ℕ → List ℕ
@@ -89,7 +85,8 @@ blended_with s k c = bit_xor (le_value (blended s c)) (get_or k.0 c 0)
 keyed : (k w : Columns) (m : ℕ → List ℕ) → ((c : ℕ) → le_bytes 4 (le_value (m c)) ≡ m c)
     → w.0 ≡ map (λ c. bit_xor (le_value (m c)) (get_or k.0 c 0)) (range_with_len 0 4)
     → state_of w ≡ state (λ r c. get_or (xors (m c) (le_bytes 4 (get_or k.0 c 0))) r 0)
-keyed k w m back e = state_is w _ _ e (λ c _. xors_of (le_value (m c)) (get_or k.0 c 0) (m c) (le_bytes 4 (get_or k.0 c 0)) (back c) refl)
+keyed k w m back e =
+    state_is w _ _ e (λ c _. xors_of (le_value (m c)) (get_or k.0 c 0) (m c) (le_bytes 4 (get_or k.0 c 0)) (back c) refl)
 
 pub round_bytes : (s k w : Columns) → w.0 ≡ map (blended_with s k) (range_with_len 0 4) → state_of w ≡ round (state_of k) (state_of s)
 unfolding state_of sub_bytes shift_rows mix_columns xor
@@ -100,19 +97,11 @@ unfolding state_of sub_bytes shift_rows xor
 last_bytes s k w e =
     keyed k w (moved s) (λ c. le_bytes-le_value (moved s c) (Bytes-of_four _ _ _ _ (sbox_byte _) (sbox_byte _) (sbox_byte _) (sbox_byte _))) e
 
--- a word turned by one, two and three bytes
-turned : (p q u v : ℕ) → p < 256 → q < 256 → u < 256 → v < 256
-    → (rotate_left w32 (le_value (p ∷ q ∷ u ∷ v ∷ [])) 8 ≡ le_value (v ∷ p ∷ q ∷ u ∷ []))
-    × (rotate_left w32 (le_value (p ∷ q ∷ u ∷ v ∷ [])) 16 ≡ le_value (u ∷ v ∷ p ∷ q ∷ []))
-    × (rotate_left w32 (le_value (p ∷ q ∷ u ∷ v ∷ [])) 24 ≡ le_value (q ∷ u ∷ v ∷ p ∷ []))
-turned p q u v hp hq hu hv =
-    let n = le_value (p ∷ q ∷ u ∷ v ∷ []) in
-    let by : (k x lo hi : ℕ) → (n * 2 ^ k) % 2 ^ 32 ≡ lo * 2 ^ k → x ≡ hi → hi < 2 ^ k → bit_or ((n * 2 ^ k) % 2 ^ 32) x ≡ lo * 2 ^ k + hi =
-    λ k x lo hi el eh h. ap (λ m. bit_or m x) el ∙ ap (bit_or (lo * 2 ^ k)) eh ∙ or_shifted lo k hi h in (
-      by 8 _ (p + 256 * (q + 256 * u)) v (omega arith) (omega arith) (omega arith) ∙ omega arith,
-      by 16 _ (p + 256 * q) (u + 256 * v) (omega arith) (omega arith) (omega arith) ∙ omega arith,
-      by 24 _ p (q + 256 * (u + 256 * v)) (omega arith) (omega arith) (omega arith) ∙ omega arith,
-    )
+-- the words in a column that stands twice, from its bytes 0, 3, 2 and 1 on
+turned : (n p q u v : ℕ) → n ≡ le_value (p ∷ q ∷ u ∷ v ∷ p ∷ q ∷ u ∷ v ∷ []) → p < 256 → q < 256 → u < 256 → v < 256
+    → (n % 2 ^ 32 ≡ le_value (p ∷ q ∷ u ∷ v ∷ [])) × (n / 2 ^ 24 % 2 ^ 32 ≡ le_value (v ∷ p ∷ q ∷ u ∷ []))
+    × (n / 2 ^ 16 % 2 ^ 32 ≡ le_value (u ∷ v ∷ p ∷ q ∷ [])) × (n / 2 ^ 8 % 2 ^ 32 ≡ le_value (q ∷ u ∷ v ∷ p ∷ []))
+turned n p q u v e hp hq hu hv = (omega arith, omega arith, omega arith, omega arith)
 
 -- a word that is known by its bytes
 pub known : (n p q u v : ℕ) → n ≡ le_value (p ∷ q ∷ u ∷ v ∷ []) → p < 256 → q < 256 → u < 256 → v < 256 → (le_bytes 4 n ≡ p ∷ q ∷ u ∷ v ∷ []) × (n < 2 ^ 32)
@@ -121,37 +110,29 @@ known n p q u v e hp hq hu hv =
     (ap (le_bytes 4) e ∙ le_bytes-le_value (p ∷ q ∷ u ∷ v ∷ []) bytes, subst (λ m. m < 2 ^ 32) (sym e) (le_value-lt (p ∷ q ∷ u ∷ v ∷ []) bytes))
 
 -- what MixColumns makes of a column is made of what it makes of each row alone
-pub mixed_rows : (p q u v a b c d b1 c1 d1 : ℕ) → p < 256 → q < 256 → u < 256 → v < 256
-    → a ≡ le_value (mixed p 0 0 0) → b ≡ le_value (mixed q 0 0 0) → c ≡ le_value (mixed u 0 0 0) → d ≡ le_value (mixed v 0 0 0)
-    → b1 ≡ rotate_left w32 b 8 → c1 ≡ rotate_left w32 c 16 → d1 ≡ rotate_left w32 d 24
-    → bit_xor (bit_xor (bit_xor a b1) c1) d1 ≡ le_value (mixed p q u v)
-mixed_rows p q u v a b c d b1 c1 d1 hp hq hu hv ea eb ec ed tb tc td =
+pub mixed_rows : (p q u v a b c d a1 b1 c1 d1 : ℕ) → p < 256 → q < 256 → u < 256 → v < 256
+    → a ≡ le_value (mixed p 0 0 0 ++ mixed p 0 0 0) → b ≡ le_value (mixed q 0 0 0 ++ mixed q 0 0 0)
+    → c ≡ le_value (mixed u 0 0 0 ++ mixed u 0 0 0) → d ≡ le_value (mixed v 0 0 0 ++ mixed v 0 0 0)
+    → a1 ≡ a % 2 ^ 32 → b1 ≡ b / 2 ^ 24 % 2 ^ 32 → c1 ≡ c / 2 ^ 16 % 2 ^ 32 → d1 ≡ d / 2 ^ 8 % 2 ^ 32
+    → bit_xor (bit_xor (bit_xor a1 b1) c1) d1 ≡ le_value (mixed p q u v)
+mixed_rows p q u v a b c d a1 b1 c1 d1 hp hq hu hv ea eb ec ed la lb lc ld =
     let column : (x : ℕ) → mixed x 0 0 0 ≡ xtime x ∷ x ∷ x ∷ thrice x ∷ [] = λ x. simp xor_zero_r in
-    let alone = λ (n x : ℕ) (e : n ≡ le_value (mixed x 0 0 0)). e ∙ ap le_value (column x) in
-    let turn = λ (x : ℕ) (h : x < 256). turned (xtime x) x x (thrice x) (xtime_byte x h) h h (thrice_byte x h) in
-    let ka = known a (xtime p) p p (thrice p) (alone a p ea) (xtime_byte p hp) hp hp (thrice_byte p hp) in
-    let kb = known b1 (thrice q) (xtime q) q q (tb ∙ ap (λ n. rotate_left w32 n 8) (alone b q eb) ∙ (turn q hq).0)
-    (thrice_byte q hq) (xtime_byte q hq) hq hq in
-    let kc = known c1 u (thrice u) (xtime u) u (tc ∙ ap (λ n. rotate_left w32 n 16) (alone c u ec) ∙ (turn u hu).1)
-    hu (thrice_byte u hu) (xtime_byte u hu) hu in
-    let kd = known d1 v v (thrice v) (xtime v) (td ∙ ap (λ n. rotate_left w32 n 24) (alone d v ed) ∙ (turn v hv).2)
-    hv hv (thrice_byte v hv) (xtime_byte v hv) in
+    let turn = λ (n x : ℕ) (e : n ≡ le_value (mixed x 0 0 0 ++ mixed x 0 0 0)) (h : x < 256).
+    turned n (xtime x) x x (thrice x) (e ∙ ap (λ m. le_value (m ++ m)) (column x)) (xtime_byte x h) h h (thrice_byte x h) in
+    let ka = known a1 (xtime p) p p (thrice p) (la ∙ (turn a p ea hp).0) (xtime_byte p hp) hp hp (thrice_byte p hp) in
+    let kb = known b1 (thrice q) (xtime q) q q (lb ∙ (turn b q eb hq).1) (thrice_byte q hq) (xtime_byte q hq) hq hq in
+    let kc = known c1 u (thrice u) (xtime u) u (lc ∙ (turn c u ec hu).2) hu (thrice_byte u hu) (xtime_byte u hu) hu in
+    let kd = known d1 v v (thrice v) (xtime v) (ld ∙ (turn d v ed hv).3) hv hv (thrice_byte v hv) (xtime_byte v hv) in
     sym (le_value-le_bytes 4 _ (xor_lt 32 _ _ (xor_lt 32 _ _ (xor_lt 32 _ _ ka.1 kb.1) kc.1) kd.1))
     ∙ ap le_value (xors_of _ _ _ _ (xors_of _ _ _ _ (xors_of _ _ _ _ ka.0 kb.0) kc.0) kd.0)
 
--- a word that is read from four bytes
-word_back : (bs : List ℕ) → length bs ≡ 4 → Bytes bs → le_bytes 4 (from_le_bytes w32 bs) ≡ bs
-word_back bs h b = sym (four_of (from_le_bytes w32 bs)) ∙ le_bytes_4 bs (from_le_bytes w32 bs) h b refl
+-- the columns of a block
+abbrev pub read_from : List ℕ → ℕ → ℕ
+read_from block c = word_at block (4 * c)
 
-abbrev pub read_from : List (List ℕ) → ℕ → ℕ
-read_from columns c = from_le_bytes w32 (get_or columns c [])
-
-pub read_bytes : (block : List ℕ) (w : Columns) → Block block → w.0 ≡ map (read_from (first_chunks 4 (length block / 4) block)) (range_with_len 0 4) → state_of w ≡ block
+pub read_bytes : (block : List ℕ) (w : Columns) → Block block → w.0 ≡ map (read_from block) (range_with_len 0 4) → state_of w ≡ block
 read_bytes block w h e =
-    let chunk : (c : ℕ) → c < 4 → get_or (first_chunks 4 (length block / 4) block) c [] ≡ part block (c * 4) 4 =
-    λ c l. chunk_at 4 (length block / 4) c block [] (omega (arith, h.0)) in
-    state_is w (read_from (first_chunks 4 (length block / 4) block)) (λ c. part block (c * 4) 4) e
-    (λ c l. ap (λ bs. le_bytes 4 (from_le_bytes w32 bs)) (chunk c l)
-    ∙ word_back (part block (c * 4) 4) (length_part block (c * 4) 4 (omega (arith, h.0))) (Bytes-part block (c * 4) 4 h.1))
-    ∙ sixteen_same _ _ (λ k l. let e : k / 4 * 4 + k % 4 ≡ k = omega arith in part_at block (k / 4 * 4) 4 (k % 4) (omega arith) ∙ ap (λ i. get_or block i 0) e)
+    let at = λ (i : ℕ). get_or block i 0 in
+    state_is w (read_from block) (λ c. at (4 * c) ∷ at (4 * c + 1) ∷ at (4 * c + 2) ∷ at (4 * c + 3) ∷ []) e
+    (λ c l. (known (read_from block c) (at (4 * c)) (at (4 * c + 1)) (at (4 * c + 2)) (at (4 * c + 3)) (omega arith) (h.1 _) (h.1 _) (h.1 _) (h.1 _)).0)
     ∙ sym (block_is_sixteen block h.0)

@@ -1,9 +1,17 @@
 -- A state as the code holds it: four words, one for each column, with row 0 in the lowest byte. Assumes nothing.
-use Rattle.std.specs.Prelude.{◌≡◌, ℕ, ◌+◌, ◌%◌, List, map, slice_index}
+use Rattle.std.specs.Prelude.{◌≡◌, ℕ, ◌+◌, ◌*◌, ◌%◌, List, map, slice_index}
 use Rattle.std.specs.List.{range_with_len}
 use Rattle.base.specs.Bytes.{le_bytes}
 use Rattle.aes128.specs.declared.columns.Columns.{Columns}
 use Rattle.aes128.specs.Aes.{state, round_key}
+
+-- the word of four bytes
+abbrev pub word : ℕ → ℕ → ℕ → ℕ → ℕ
+word p q u v = p + q * 256 + u * 65536 + v * 16777216
+
+-- the word of the four bytes from a place on
+abbrev pub word_at : List ℕ → ℕ → ℕ
+word_at bs at = word (slice_index bs at) (slice_index bs (at + 1)) (slice_index bs (at + 2)) (slice_index bs (at + 3))
 
 -- the byte of a word in a row
 abbrev pub byte_in : ℕ → ℕ → ℕ

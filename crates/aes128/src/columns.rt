@@ -1,9 +1,9 @@
 // A state as four words, one for each column, with row 0 in the lowest byte.
-ghost use Rattle.std.specs.Prelude.{◌≡◌, ◌<◌, map, slice_index};
+ghost use Rattle.std.specs.Prelude.{◌≡◌, ◌<◌, ◌≤◌, map, slice_index};
 ghost use Rattle.std.specs.List.{range_with_len};
 ghost use Rattle.cipher.specs.Blocks.{xor};
 ghost use Rattle.aes128.specs.Aes.{round, last_round, next_key};
-ghost use Rattle.aes128.specs.Columns.{byte_in, state_of, shifted};
+ghost use Rattle.aes128.specs.Columns.{byte_in, state_of, shifted, word_at};
 
 use crate::tables::{mixed_column, substituted};
 use std::array;
@@ -11,12 +11,19 @@ use std::array;
 #[derive(Clone, Copy)]
 pub struct Columns([u32; 4]);
 
+// The word of the four bytes from a place on.
+fn word_at(bytes: &[u8; 16], at: usize) -> u32
+    requires { at ≤ 12 }
+    ensures { result ≡ word_at bytes.now at }
+{
+    u32::from_le_bytes(array::from_fn(|row| bytes[at + row]))
+}
+
 impl From<&[u8; 16]> for Columns {
     ghost from_gives = { λ bytes columns. state_of columns ≡ bytes.now };
 
     fn from(bytes: &[u8; 16]) -> Columns {
-        let (columns, _) = bytes.as_chunks::<4>();
-        Columns(array::from_fn(|c| u32::from_le_bytes(columns[c])))
+        Columns(array::from_fn(|c| word_at(bytes, 4 * c)))
     }
 }
 
@@ -57,7 +64,13 @@ impl Columns {
     pub fn after_round(&self, key: &Columns) -> Columns
         ensures { state_of result ≡ round (state_of key.now) (state_of self.now) }
     {
-        Columns(array::from_fn(|c| mixed_column(self.shifted(c)) ^ key.0[c]))
+        // not by array::from_fn, for which the compiler keeps the state in a vector register: a round takes a third longer
+        Columns([
+            mixed_column(self.shifted(0)) ^ key.0[0],
+            mixed_column(self.shifted(1)) ^ key.0[1],
+            mixed_column(self.shifted(2)) ^ key.0[2],
+            mixed_column(self.shifted(3)) ^ key.0[3],
+        ])
     }
 
     pub fn after_last_round(&self, key: &Columns) -> Columns

@@ -8,7 +8,8 @@ ghost use Rattle.aont.specs.Package.{block, canary, canary_in, key_in, message_i
 ghost use Rattle.aont.specs.Seals.{framed, unsealed};
 
 use crate::blocks::{bind, block_at, masked_block, put};
-use crate::frame::{header_fits, is_canary, is_padded, length_in};
+use crate::frame::{header_fits, is_canary, is_padded};
+use base::u16_at;
 use cipher::Cipher;
 
 // The key that a package's last block binds.
@@ -50,7 +51,7 @@ pub(crate) fn file_length<C: Cipher>(cipher: &C, package: &[u8]) -> Option<usize
     if !header_fits(&first, C::cipher_number(), frame) {
         return None;
     }
-    let size = usize::from(length_in(&first));
+    let size = usize::from(u16_at(&first, 0));
     let last = plain_block(cipher, package, frame / 16 - 1);
     if !is_padded(&last, size + 20 - frame) {
         return None;
