@@ -1,11 +1,10 @@
 -- Words of four bytes, and states made of four words. Assumes nothing.
 use Rattle.std.proofs.Common.{◌≡◌, ℕ, zero, suc, ◌+◌, ◌*◌, ◌/◌, ◌%◌, ◌^◌, ◌<◌, List, [], ◌∷◌, ◌++◌, map, get_or, sym, refl, ap, ◌∙◌, subst, arith}
 use native.Mathlib.Nat.{div-div-eq-div-mul}
-use lib.Bits.{bit_or, bit_xor, xor_lt, xor_mod, xor_shr, xor_zero_r}
-use Rattle.std.specs.Int.{w32, rotate_left, to_le_bytes}
+use lib.Bits.{bit_xor, xor_lt, xor_mod, xor_shr, xor_zero_r}
+use Rattle.std.specs.Int.{w32, to_le_bytes}
 use Rattle.std.specs.List.{range_with_len}
 use Rattle.std.proofs.lemmas.List.FromFn.{get_or-map-range_with_len}
-use Rattle.std.proofs.lemmas.Nat.{or_shifted}
 use Rattle.base.specs.Bytes.{Bytes, le_bytes, le_value}
 use Rattle.base.proofs.Little.{le_bytes-le_value, le_value-le_bytes, le_value-lt}
 use Rattle.cipher.specs.Blocks.{Block, xor}

@@ -64,13 +64,7 @@ impl Columns {
     pub fn after_round(&self, key: &Columns) -> Columns
         ensures { state_of result ≡ round (state_of key.now) (state_of self.now) }
     {
-        // not by array::from_fn, for which the compiler keeps the state in a vector register: a round takes a third longer
-        Columns([
-            mixed_column(self.shifted(0)) ^ key.0[0],
-            mixed_column(self.shifted(1)) ^ key.0[1],
-            mixed_column(self.shifted(2)) ^ key.0[2],
-            mixed_column(self.shifted(3)) ^ key.0[3],
-        ])
+        Columns(array::from_fn(|c| mixed_column(self.shifted(c)) ^ key.0[c]))
     }
 
     pub fn after_last_round(&self, key: &Columns) -> Columns
