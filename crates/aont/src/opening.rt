@@ -67,7 +67,7 @@ pub(crate) fn write_file<C: Cipher>(cipher: &C, package: &[u8], size: usize, out
     requires room { size ≤ length out.old }
     ensures { out.new ≡ over (unsealed C.Cipher.encrypted C.Cipher.number «package».now) out.old }
 {
-    // block i + 1 holds the frame from byte 16 i on, and the file begins at the frame's byte 4
+    // by number, which the mask needs: block i + 1 holds the frame from byte 16 i on, and the file begins at the frame's byte 4
     for i in 0..(size + 19) / 16 {
         let plain = plain_block(cipher, package, i);
         let at = (16 * i).saturating_sub(4);
