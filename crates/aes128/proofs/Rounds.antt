@@ -1,8 +1,9 @@
 -- From the round keys of a key to its cipher, round by round. Assumes nothing.
-use Rattle.std.proofs.Common.{◌≡◌, ℕ, suc, ◌+◌, ◌-◌, ◌<◌, ◌≤◌, List, [], map, length, get_or, set, sym, ap, ◌∙◌, arith}
+use Rattle.std.proofs.Common.{◌≡◌, ℕ, suc, ◌+◌, ◌<◌, ◌≤◌, List, [], map, length, get_or, set, drop, sym, ap, ◌∙◌, add-one, arith}
+use borrow.Rule.Slice.PartMut.{mid_of}
 use Rattle.std.proofs.lemmas.List.FromFn.{fill_by_all, get_or-map-range_with_len}
 use Rattle.std.proofs.lemmas.List.Edits.{fill_by_more}
-use Rattle.std.proofs.lemmas.List.{length-map, length-set, get_or-map, map-set}
+use Rattle.std.proofs.lemmas.List.{length-map, length-set, get_or-drop, get_or-map, get_or-take, map-set}
 use Rattle.cipher.specs.Blocks.{xor}
 use Rattle.aes128.specs.declared.columns.Columns.{Columns}
 use Rattle.aes128.specs.Aes.{round, last_round, round_key, rounds, aes}
@@ -13,17 +14,20 @@ key_at_lem key ks h none r less =
     let size : length ks ≡ 11 = sym (length-map ks state_of) ∙ ap length h in
     sym (get_or-map state_of ks r none [] (omega arith)) ∙ ap (λ l. get_or l r []) h ∙ get_or-map-range_with_len (round_key key) 0 11 r r [] less (omega arith)
 
+-- of the nine between the first and the last
+pub key_between : (key : List ℕ) (ks : List Columns) → RoundKeys key ks → (none : Columns) (r : ℕ) → r < 9 → state_of (get_or (mid_of 1 9 ks) r none) ≡ round_key key (1 + r)
+key_between key ks h none r less =
+    ap state_of (get_or-take 9 (drop 1 ks) r none less ∙ get_or-drop 1 ks r none) ∙ key_at_lem key ks h none (1 + r) (omega arith)
+
 pub first_state : (key block s k w : List ℕ) → s ≡ block → k ≡ round_key key 0 → w ≡ xor s k → w ≡ rounds key block 0
 unfolding rounds
 first_state key block s k w es ek ew = ew ∙ simp (es, ek)
 
-pub next_state : (key block : List ℕ) (i : ℕ) (s k w : List ℕ) → 1 ≤ i → s ≡ rounds key block (i - 1) → k ≡ round_key key i → w ≡ round k s
-    → w ≡ rounds key block (i + 1 - 1)
+pub next_state : (key block : List ℕ) (i : ℕ) (s k w : List ℕ) → s ≡ rounds key block i → k ≡ round_key key (1 + i) → w ≡ round k s → w ≡ rounds key block (i + 1)
 unfolding rounds
-next_state key block i s k w h es ek ew =
-    let e : i ≡ suc (i - 1) = omega arith in
-    let f : suc (i - 1) ≡ i + 1 - 1 = omega arith in
-    ew ∙ ap (round k) es ∙ ap (λ l. round l (rounds key block (i - 1))) (ek ∙ ap (round_key key) e) ∙ ap (rounds key block) f
+next_state key block i s k w es ek ew =
+    let e : 1 + i ≡ suc i = omega arith in
+    ew ∙ ap (round k) es ∙ ap (λ l. round l (rounds key block i)) (ek ∙ ap (round_key key) e) ∙ ap (rounds key block) (sym (add-one i))
 
 pub last_state : (key block s k w : List ℕ) → s ≡ rounds key block 9 → k ≡ round_key key 10 → w ≡ last_round k s → w ≡ aes key block
 last_state key block s k w es ek ew = ew ∙ simp (es, ek)

@@ -1,17 +1,20 @@
--- Words of four bytes, and rounds on them. Assumes nothing.
-use Rattle.std.proofs.Common.{◌≡◌, ℕ, zero, suc, ◌/◌, ◌%◌, ◌<◌, List, [], ◌∷◌, ◌++◌, get_or, sym, refl, ap, ◌∙◌, arith}
+-- Words of four bytes, and states made of four words. Assumes nothing.
+use Rattle.std.proofs.Common.{◌≡◌, ℕ, zero, suc, ◌+◌, ◌*◌, ◌/◌, ◌%◌, ◌^◌, ◌<◌, List, [], ◌∷◌, ◌++◌, map, get_or, sym, refl, ap, ◌∙◌, subst, arith}
 use native.Mathlib.Nat.{div-div-eq-div-mul}
 use lib.Bits.{bit_xor, xor_lt, xor_mod, xor_shr, xor_zero_r}
+use Rattle.std.specs.Int.{w32, to_le_bytes}
+use Rattle.std.specs.List.{range_with_len}
+use Rattle.std.proofs.lemmas.List.FromFn.{get_or-map-range_with_len}
 use Rattle.base.specs.Bytes.{Bytes, le_bytes, le_value}
-use Rattle.base.proofs.Little.{le_bytes-le_value}
+use Rattle.base.proofs.Little.{le_bytes-le_value, le_value-le_bytes, le_value-lt}
 use Rattle.cipher.specs.Blocks.{Block, xor}
-use Rattle.cipher.proofs.Xor.{block_is_sixteen}
+use Rattle.cipher.proofs.Xor.{block_is_sixteen, sixteen_same}
 use Rattle.aes128.specs.declared.columns.Columns.{Columns}
-use Rattle.aes128.specs.Aes.{sbox, xtime, thrice, mixed, sub_bytes, shift_rows, mix_columns, round, last_round}
-use Rattle.aes128.specs.Columns.{state_of, word, word_at, round_column, last_column}
+use Rattle.aes128.specs.Aes.{sbox, xtime, thrice, mixed, state, sub_bytes, shift_rows, mix_columns, round, last_round}
+use Rattle.aes128.specs.Columns.{byte_in, state_of, shifted, word_at}
 use Rattle.aes128.specs.Sizes.{sbox_byte, xtime_byte, thrice_byte}
 
-abbrev xors : List ℕ → List ℕ → List ℕ
+abbrev pub xors : List ℕ → List ℕ → List ℕ
 xors [] ys = []
 xors (a ∷ xs) [] = []
 xors (a ∷ xs) (b ∷ ys) = bit_xor a b ∷ xors xs ys
@@ -23,27 +26,18 @@ le_bytes-xor (suc width) a b =
     ∙ ap (λ n. bit_xor (a % 256) (b % 256) ∷ le_bytes width n) (xor_shr a b 8)
     ∙ ap (λ l. bit_xor (a % 256) (b % 256) ∷ l) (le_bytes-xor width (a / 256) (b / 256))
 
-xors_of : (a b : ℕ) (xs ys : List ℕ) → le_bytes 4 a ≡ xs → le_bytes 4 b ≡ ys → le_bytes 4 (bit_xor a b) ≡ xors xs ys
+pub xors_of : (a b : ℕ) (xs ys : List ℕ) → le_bytes 4 a ≡ xs → le_bytes 4 b ≡ ys → le_bytes 4 (bit_xor a b) ≡ xors xs ys
 xors_of a b xs ys p q = le_bytes-xor 4 a b ∙ ap (λ l. xors l (le_bytes 4 b)) p ∙ ap (xors xs) q
 
-Bytes-of_four : (p q u v : ℕ) → p < 256 → q < 256 → u < 256 → v < 256 → Bytes (p ∷ q ∷ u ∷ v ∷ [])
+pub four_of : (n : ℕ) → to_le_bytes w32 n ≡ le_bytes 4 n
+four_of n = simp div-div-eq-div-mul
+
+pub Bytes-of_four : (p q u v : ℕ) → p < 256 → q < 256 → u < 256 → v < 256 → Bytes (p ∷ q ∷ u ∷ v ∷ [])
 Bytes-of_four p q u v hp hq hu hv zero = hp
 Bytes-of_four p q u v hp hq hu hv (suc zero) = hq
 Bytes-of_four p q u v hp hq hu hv (suc (suc zero)) = hu
 Bytes-of_four p q u v hp hq hu hv (suc (suc (suc zero))) = hv
 Bytes-of_four p q u v hp hq hu hv (suc (suc (suc (suc i)))) = omega arith
-
-four_of_word : (p q u v : ℕ) → p < 256 → q < 256 → u < 256 → v < 256 → le_bytes 4 (word p q u v) ≡ p ∷ q ∷ u ∷ v ∷ []
-four_of_word p q u v hp hq hu hv =
-    let e : word p q u v ≡ le_value (p ∷ q ∷ u ∷ v ∷ []) = omega arith in
-    ap (le_bytes 4) e ∙ le_bytes-le_value (p ∷ q ∷ u ∷ v ∷ []) (Bytes-of_four p q u v hp hq hu hv)
-
-pub four_of : (n : ℕ) → le_bytes 4 n ≡ n % 256 ∷ n / 256 % 256 ∷ n / 65536 % 256 ∷ n / 16777216 % 256 ∷ []
-four_of n = simp div-div-eq-div-mul
-
--- MixColumns of a column is made of what it makes of each row alone
-shares : (p q u v : ℕ) → xors (xors (xors (mixed p 0 0 0) (mixed 0 q 0 0)) (mixed 0 0 u 0)) (mixed 0 0 0 v) ≡ mixed p q u v
-shares p q u v = simp xor_zero_r
 
 sum_byte : (p q u v : ℕ) → p < 256 → q < 256 → u < 256 → v < 256 → bit_xor (bit_xor (bit_xor p q) u) v < 256
 sum_byte p q u v hp hq hu hv = xor_lt 8 (bit_xor (bit_xor p q) u) v (xor_lt 8 (bit_xor p q) u (xor_lt 8 p q hp hq) hu) hv
@@ -57,101 +51,87 @@ mixed_back p q u v hp hq hu hv =
     (sum_byte p q (xtime u) (thrice v) hp hq (xtime_byte u hu) (thrice_byte v hv))
     (sum_byte (thrice p) q u (xtime v) (thrice_byte p hp) hq hu (xtime_byte v hv)))
 
--- the byte of a column in a row
-abbrev row : ℕ → ℕ → ℕ
-row n r = get_or (le_bytes 4 n) r 0
-
-row_2 : (n : ℕ) → n / 65536 % 256 ≡ row n 2
-row_2 n = simp div-div-eq-div-mul
-
-row_3 : (n : ℕ) → n / 16777216 % 256 ≡ row n 3
-row_3 n = simp div-div-eq-div-mul
-
-low : 0 < 256
-low = omega arith
-
-round_column_bytes : (a b c d k : ℕ) → le_bytes 4 (round_column a b c d k)
-    ≡ xors (mixed (sbox (row a 0)) (sbox (row b 1)) (sbox (row c 2)) (sbox (row d 3))) (le_bytes 4 k)
-round_column_bytes a b c d k =
-    let p = sbox (row a 0) in
-    let q = sbox (row b 1) in
-    let u = sbox (row c 2) in
-    let v = sbox (row d 3) in
-    ap (λ m. le_bytes 4 (bit_xor m k)) (simp (row_2 c, row_3 d))
-    ∙ xors_of _ k _ (le_bytes 4 k)
-    (xors_of _ (le_value (mixed 0 0 0 v)) _ (mixed 0 0 0 v)
-    (xors_of _ (le_value (mixed 0 0 u 0)) _ (mixed 0 0 u 0)
-    (xors_of (le_value (mixed p 0 0 0)) (le_value (mixed 0 q 0 0)) (mixed p 0 0 0) (mixed 0 q 0 0)
-    (mixed_back p 0 0 0 (sbox_byte _) low low low)
-    (mixed_back 0 q 0 0 low (sbox_byte _) low low))
-    (mixed_back 0 0 u 0 low low (sbox_byte _) low))
-    (mixed_back 0 0 0 v low low low (sbox_byte _)))
-    refl
-    ∙ ap (λ l. xors l (le_bytes 4 k)) (shares p q u v)
-
-last_column_bytes : (a b c d k : ℕ) → le_bytes 4 (last_column a b c d k)
-    ≡ xors (sbox (row a 0) ∷ sbox (row b 1) ∷ sbox (row c 2) ∷ sbox (row d 3) ∷ []) (le_bytes 4 k)
-last_column_bytes a b c d k =
-    ap (λ n. le_bytes 4 (bit_xor (word (sbox (a % 256)) (sbox (b / 256 % 256)) (sbox n) (sbox (d / 16777216 % 256))) k)) (row_2 c)
-    ∙ ap (λ n. le_bytes 4 (bit_xor (word (sbox (a % 256)) (sbox (b / 256 % 256)) (sbox (row c 2)) (sbox n)) k)) (row_3 d)
-    ∙ xors_of _ k _ (le_bytes 4 k)
-    (four_of_word (sbox (row a 0)) (sbox (row b 1)) (sbox (row c 2)) (sbox (row d 3)) (sbox_byte _) (sbox_byte _) (sbox_byte _) (sbox_byte _))
-    refl
-
-joined : (w : Columns) (a b c d : ℕ) (p q u v : List ℕ) → w.a ≡ a → w.b ≡ b → w.c ≡ c → w.d ≡ d
-    → le_bytes 4 a ≡ p → le_bytes 4 b ≡ q → le_bytes 4 c ≡ u → le_bytes 4 d ≡ v → state_of w ≡ p ++ (q ++ (u ++ v))
+-- a state by its words
+pub state_is : (w : Columns) (F : ℕ → ℕ) (P : ℕ → List ℕ) → w.0 ≡ map F (range_with_len 0 4) → ((c : ℕ) → c < 4 → le_bytes 4 (F c) ≡ P c)
+    → state_of w ≡ state (λ r c. get_or (P c) r 0)
 unfolding state_of
-joined w a b c d p q u v ea eb ec ed hp hq hu hv =
-    ap (λ l. l ++ (le_bytes 4 w.b ++ (le_bytes 4 w.c ++ le_bytes 4 w.d))) (ap (le_bytes 4) ea ∙ hp)
-    ∙ ap (λ l. p ++ (l ++ (le_bytes 4 w.c ++ le_bytes 4 w.d))) (ap (le_bytes 4) eb ∙ hq)
-    ∙ ap (λ l. p ++ (q ++ (l ++ le_bytes 4 w.d))) (ap (le_bytes 4) ec ∙ hu)
-    ∙ ap (λ l. p ++ (q ++ (u ++ l))) (ap (le_bytes 4) ed ∙ hv)
+state_is w F P e h =
+    ap (λ ws. state (λ r c. byte_in (get_or ws c 0) r)) e
+    ∙ sixteen_same _ _ (λ k l.
+    let c : k / 4 < 4 = omega arith in
+    ap (λ n. byte_in n (k % 4)) (get_or-map-range_with_len F 0 4 (k / 4) (k / 4) 0 c (omega arith)) ∙ ap (λ bs. get_or bs (k % 4) 0) (h (k / 4) c))
 
-pub round_bytes : (s k w : Columns) → w.a ≡ round_column s.a s.b s.c s.d k.a
-    → w.b ≡ round_column s.b s.c s.d s.a k.b → w.c ≡ round_column s.c s.d s.a s.b k.c
-    → w.d ≡ round_column s.d s.a s.b s.c k.d → state_of w ≡ round (state_of k) (state_of s)
-unfolding state_of sub_bytes shift_rows mix_columns xor
-round_bytes s k w ea eb ec ed =
-    joined w _ _ _ _ _ _ _ _ ea eb ec ed
-    (round_column_bytes s.a s.b s.c s.d k.a)
-    (round_column_bytes s.b s.c s.d s.a k.b)
-    (round_column_bytes s.c s.d s.a s.b k.c)
-    (round_column_bytes s.d s.a s.b s.c k.d)
+abbrev pub added : Columns → Columns → ℕ → ℕ
+added s k c = bit_xor (get_or s.0 c 0) (get_or k.0 c 0)
 
-pub last_bytes : (s k w : Columns) → w.a ≡ last_column s.a s.b s.c s.d k.a
-    → w.b ≡ last_column s.b s.c s.d s.a k.b → w.c ≡ last_column s.c s.d s.a s.b k.c
-    → w.d ≡ last_column s.d s.a s.b s.c k.d → state_of w ≡ last_round (state_of k) (state_of s)
-unfolding state_of sub_bytes shift_rows xor
-last_bytes s k w ea eb ec ed =
-    joined w _ _ _ _ _ _ _ _ ea eb ec ed
-    (last_column_bytes s.a s.b s.c s.d k.a)
-    (last_column_bytes s.b s.c s.d s.a k.b)
-    (last_column_bytes s.c s.d s.a s.b k.c)
-    (last_column_bytes s.d s.a s.b s.c k.d)
-
-pub xor_bytes : (s k w : Columns) → w.a ≡ bit_xor s.a k.a → w.b ≡ bit_xor s.b k.b → w.c ≡ bit_xor s.c k.c
-    → w.d ≡ bit_xor s.d k.d → state_of w ≡ xor (state_of s) (state_of k)
+pub xor_bytes : (s k w : Columns) → w.0 ≡ map (added s k) (range_with_len 0 4) → state_of w ≡ xor (state_of s) (state_of k)
 unfolding state_of xor
-xor_bytes s k w ea eb ec ed =
-    joined w _ _ _ _ _ _ _ _ ea eb ec ed
-    (le_bytes-xor 4 s.a k.a) (le_bytes-xor 4 s.b k.b) (le_bytes-xor 4 s.c k.c) (le_bytes-xor 4 s.d k.d)
+xor_bytes s k w e = state_is w (added s k) _ e (λ c _. le_bytes-xor 4 (get_or s.0 c 0) (get_or k.0 c 0))
+
+-- a column with a round key put on it, of a state after the S-box and ShiftRows, and after MixColumns too
+abbrev moved : Columns → ℕ → List ℕ
+moved s c = map sbox (map (shifted s.0 c) (range_with_len 0 4))
+
+abbrev pub moved_with : Columns → Columns → ℕ → ℕ
+moved_with s k c = bit_xor (le_value (moved s c)) (get_or k.0 c 0)
+
+abbrev blended : Columns → ℕ → List ℕ
+blended s c = mixed (sbox (shifted s.0 c 0)) (sbox (shifted s.0 c 1)) (sbox (shifted s.0 c 2)) (sbox (shifted s.0 c 3))
+
+abbrev pub blended_with : Columns → Columns → ℕ → ℕ
+blended_with s k c = bit_xor (le_value (blended s c)) (get_or k.0 c 0)
+
+keyed : (k w : Columns) (m : ℕ → List ℕ) → ((c : ℕ) → le_bytes 4 (le_value (m c)) ≡ m c)
+    → w.0 ≡ map (λ c. bit_xor (le_value (m c)) (get_or k.0 c 0)) (range_with_len 0 4)
+    → state_of w ≡ state (λ r c. get_or (xors (m c) (le_bytes 4 (get_or k.0 c 0))) r 0)
+keyed k w m back e =
+    state_is w _ _ e (λ c _. xors_of (le_value (m c)) (get_or k.0 c 0) (m c) (le_bytes 4 (get_or k.0 c 0)) (back c) refl)
+
+pub round_bytes : (s k w : Columns) → w.0 ≡ map (blended_with s k) (range_with_len 0 4) → state_of w ≡ round (state_of k) (state_of s)
+unfolding state_of sub_bytes shift_rows mix_columns xor
+round_bytes s k w e = keyed k w (blended s) (λ c. mixed_back _ _ _ _ (sbox_byte _) (sbox_byte _) (sbox_byte _) (sbox_byte _)) e
+
+pub last_bytes : (s k w : Columns) → w.0 ≡ map (moved_with s k) (range_with_len 0 4) → state_of w ≡ last_round (state_of k) (state_of s)
+unfolding state_of sub_bytes shift_rows xor
+last_bytes s k w e =
+    keyed k w (moved s) (λ c. le_bytes-le_value (moved s c) (Bytes-of_four _ _ _ _ (sbox_byte _) (sbox_byte _) (sbox_byte _) (sbox_byte _))) e
+
+-- the words in a column that stands twice, from its bytes 0, 3, 2 and 1 on
+turned : (n p q u v : ℕ) → n ≡ le_value (p ∷ q ∷ u ∷ v ∷ p ∷ q ∷ u ∷ v ∷ []) → p < 256 → q < 256 → u < 256 → v < 256
+    → (n % 2 ^ 32 ≡ le_value (p ∷ q ∷ u ∷ v ∷ [])) × (n / 2 ^ 24 % 2 ^ 32 ≡ le_value (v ∷ p ∷ q ∷ u ∷ []))
+    × (n / 2 ^ 16 % 2 ^ 32 ≡ le_value (u ∷ v ∷ p ∷ q ∷ [])) × (n / 2 ^ 8 % 2 ^ 32 ≡ le_value (q ∷ u ∷ v ∷ p ∷ []))
+turned n p q u v e hp hq hu hv = (omega arith, omega arith, omega arith, omega arith)
+
+-- a word that is known by its bytes
+pub known : (n p q u v : ℕ) → n ≡ le_value (p ∷ q ∷ u ∷ v ∷ []) → p < 256 → q < 256 → u < 256 → v < 256 → (le_bytes 4 n ≡ p ∷ q ∷ u ∷ v ∷ []) × (n < 2 ^ 32)
+known n p q u v e hp hq hu hv =
+    let bytes = Bytes-of_four p q u v hp hq hu hv in
+    (ap (le_bytes 4) e ∙ le_bytes-le_value (p ∷ q ∷ u ∷ v ∷ []) bytes, subst (λ m. m < 2 ^ 32) (sym e) (le_value-lt (p ∷ q ∷ u ∷ v ∷ []) bytes))
+
+-- what MixColumns makes of a column is made of what it makes of each row alone
+pub mixed_rows : (p q u v a b c d a1 b1 c1 d1 : ℕ) → p < 256 → q < 256 → u < 256 → v < 256
+    → a ≡ le_value (mixed p 0 0 0 ++ mixed p 0 0 0) → b ≡ le_value (mixed q 0 0 0 ++ mixed q 0 0 0)
+    → c ≡ le_value (mixed u 0 0 0 ++ mixed u 0 0 0) → d ≡ le_value (mixed v 0 0 0 ++ mixed v 0 0 0)
+    → a1 ≡ a % 2 ^ 32 → b1 ≡ b / 2 ^ 24 % 2 ^ 32 → c1 ≡ c / 2 ^ 16 % 2 ^ 32 → d1 ≡ d / 2 ^ 8 % 2 ^ 32
+    → bit_xor (bit_xor (bit_xor a1 b1) c1) d1 ≡ le_value (mixed p q u v)
+mixed_rows p q u v a b c d a1 b1 c1 d1 hp hq hu hv ea eb ec ed la lb lc ld =
+    let column : (x : ℕ) → mixed x 0 0 0 ≡ xtime x ∷ x ∷ x ∷ thrice x ∷ [] = λ x. simp xor_zero_r in
+    let turn = λ (n x : ℕ) (e : n ≡ le_value (mixed x 0 0 0 ++ mixed x 0 0 0)) (h : x < 256).
+    turned n (xtime x) x x (thrice x) (e ∙ ap (λ m. le_value (m ++ m)) (column x)) (xtime_byte x h) h h (thrice_byte x h) in
+    let ka = known a1 (xtime p) p p (thrice p) (la ∙ (turn a p ea hp).0) (xtime_byte p hp) hp hp (thrice_byte p hp) in
+    let kb = known b1 (thrice q) (xtime q) q q (lb ∙ (turn b q eb hq).1) (thrice_byte q hq) (xtime_byte q hq) hq hq in
+    let kc = known c1 u (thrice u) (xtime u) u (lc ∙ (turn c u ec hu).2) hu (thrice_byte u hu) (xtime_byte u hu) hu in
+    let kd = known d1 v v (thrice v) (xtime v) (ld ∙ (turn d v ed hv).3) hv hv (thrice_byte v hv) (xtime_byte v hv) in
+    sym (le_value-le_bytes 4 _ (xor_lt 32 _ _ (xor_lt 32 _ _ (xor_lt 32 _ _ ka.1 kb.1) kc.1) kd.1))
+    ∙ ap le_value (xors_of _ _ _ _ (xors_of _ _ _ _ (xors_of _ _ _ _ ka.0 kb.0) kc.0) kd.0)
 
 -- the columns of a block
-pub read_bytes : (block : List ℕ) (w : Columns) → Block block → w.a ≡ word_at block 0 → w.b ≡ word_at block 4
-    → w.c ≡ word_at block 8 → w.d ≡ word_at block 12 → state_of w ≡ block
-read_bytes block w h ea eb ec ed =
-    joined w _ _ _ _ _ _ _ _ ea eb ec ed
-    (four_of_word (get_or block 0 0) (get_or block 1 0) (get_or block 2 0) (get_or block 3 0) (h.1 0) (h.1 1) (h.1 2) (h.1 3))
-    (four_of_word (get_or block 4 0) (get_or block 5 0) (get_or block 6 0) (get_or block 7 0) (h.1 4) (h.1 5) (h.1 6) (h.1 7))
-    (four_of_word (get_or block 8 0) (get_or block 9 0) (get_or block 10 0) (get_or block 11 0) (h.1 8) (h.1 9) (h.1 10) (h.1 11))
-    (four_of_word (get_or block 12 0) (get_or block 13 0) (get_or block 14 0) (get_or block 15 0) (h.1 12) (h.1 13) (h.1 14) (h.1 15))
-    ∙ sym (block_is_sixteen block h.0)
+abbrev pub read_from : List ℕ → ℕ → ℕ
+read_from block c = word_at block (4 * c)
 
--- the bytes of four words, one by one
-pub written_bytes : (w : Columns) (p q u v : List ℕ) → p ≡ le_bytes 4 w.a → q ≡ le_bytes 4 w.b → u ≡ le_bytes 4 w.c
-    → v ≡ le_bytes 4 w.d
-    → get_or p 0 0 ∷ get_or p 1 0 ∷ get_or p 2 0 ∷ get_or p 3 0 ∷ get_or q 0 0 ∷ get_or q 1 0 ∷ get_or q 2 0 ∷ get_or q 3 0
-    ∷ get_or u 0 0 ∷ get_or u 1 0 ∷ get_or u 2 0 ∷ get_or u 3 0 ∷ get_or v 0 0 ∷ get_or v 1 0 ∷ get_or v 2 0 ∷ get_or v 3 0 ∷ []
-    ≡ state_of w
-unfolding state_of
-written_bytes w p q u v ep eq eu ev = simp (ep, eq, eu, ev)
+pub read_bytes : (block : List ℕ) (w : Columns) → Block block → w.0 ≡ map (read_from block) (range_with_len 0 4) → state_of w ≡ block
+read_bytes block w h e =
+    let at = λ (i : ℕ). get_or block i 0 in
+    state_is w (read_from block) (λ c. at (4 * c) ∷ at (4 * c + 1) ∷ at (4 * c + 2) ∷ at (4 * c + 3) ∷ []) e
+    (λ c l. (known (read_from block c) (at (4 * c)) (at (4 * c + 1)) (at (4 * c + 2)) (at (4 * c + 3)) (omega arith) (h.1 _) (h.1 _) (h.1 _) (h.1 _)).0)
+    ∙ sym (block_is_sixteen block h.0)

@@ -2,13 +2,12 @@
 #![tactic(auto)]
 
 ghost use Rattle.std.specs.Prelude.{◌≡◌, min};
-ghost use Rattle.aes128.specs.Aes.{xtime, next_key, round_key, aes};
+ghost use Rattle.aes128.specs.Aes.{xtime, round_key, aes};
 ghost use Rattle.aes128.specs.Columns.{state_of, RoundKeys};
 ghost use Rattle.aes128.specs.Sizes.{aes_laws};
 
 use cipher::Cipher;
 use columns::Columns;
-use tables::substitute;
 
 mod columns;
 mod tables;
@@ -28,31 +27,16 @@ fn double(b: u8) -> u8
     if b < 128 { b * 2 } else { (b - 128) * 2 ^ 0x1b }
 }
 
-// The round key after k, with its round constant.
-fn next_key(rc: u8, k: &[u8; 16]) -> [u8; 16]
-    ensures { result ≡ next_key rc k.now }
-{
-    let constant = [rc, 0, 0, 0];
-    let mut next = [0u8; 16];
-    for i in 0..4usize {
-        next[i] = k[i] ^ (substitute(k[(i + 1) % 4 + 12]) ^ constant[i]);
-    }
-    for j in 4..16usize {
-        next[j] = k[j] ^ next[j - 4];
-    }
-    next
-}
-
 // The round keys of a key.
 fn schedule(key: &[u8; 16]) -> [Columns; 11]
     ensures { RoundKeys key.now result }
 {
-    let mut round_keys = [Columns::ZERO; 11];
-    let mut k = *key;
+    let mut round_key = Columns::from(key);
     let mut constant = 1u8;
-    for i in 0..11usize {
-        round_keys[i] = Columns::read(&k);
-        k = next_key(constant, &k);
+    let mut round_keys = [round_key; 11];
+    for slot in round_keys.iter_mut() {
+        *slot = round_key;
+        round_key = round_key.next_key(constant);
         constant = double(constant);
     }
     round_keys
@@ -63,16 +47,16 @@ impl Aes128 {
     pub fn round_key(&self, round: usize) -> [u8; 16]
         ensures { result ≡ round_key self.now.key (min round 10) }
     {
-        self.round_keys[round.min(10)].written()
+        self.round_keys[round.min(10)].into()
     }
 
     // The state after all rounds on a block.
     fn run(&self, block: &[u8; 16]) -> Columns
         ensures { state_of result ≡ aes self.now.key block.now }
     {
-        let mut state = Columns::read(block).with_round_key(&self.round_keys[0]);
-        for i in 1..10usize {
-            state = state.after_round(&self.round_keys[i]);
+        let mut state = Columns::from(block).with_round_key(&self.round_keys[0]);
+        for key in &self.round_keys[1..10] {
+            state = state.after_round(key);
         }
         state.after_last_round(&self.round_keys[10])
     }
@@ -101,6 +85,6 @@ impl Cipher for Aes128 {
     }
 
     fn encrypt(&self, block: &[u8; 16]) -> [u8; 16] {
-        self.run(block).written()
+        self.run(block).into()
     }
 }

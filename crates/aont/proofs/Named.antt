@@ -1,5 +1,5 @@
 -- The tests of a package: they hold of what a file was sealed to, and of nothing else. Assumes nothing.
-use Rattle.std.proofs.Common.{◌≡◌, ℕ, ◌+◌, ◌-◌, ◌*◌, ◌<◌, ◌≤◌, Bool, true, false, cond, List, length, get_or, take, drop, replicate, Some, None, Decides, Option, sym, refl, ap, ◌∙◌, subst, arith, rules}
+use Rattle.std.proofs.Common.{◌≡◌, ℕ, ◌+◌, ◌-◌, ◌*◌, ◌<◌, ◌≤◌, Bool, true, false, cond, List, length, get_or, take, drop, replicate, Some, None, Decides, EachIndex, Option, sym, refl, ap, ◌∙◌, subst, arith, rules}
 use Rattle.std.specs.Str.{bytes_eq}
 use Rattle.std.proofs.lemmas.Slice.Eq.{bytes_eq-Decides}
 use Rattle.std.proofs.lemmas.List.{ext_get_or, get_or-drop, get_or-replicate, get_or-take, length-drop, length-replicate, take-take}
@@ -13,13 +13,27 @@ use Rattle.aont.proofs.Framing.{frame_from, length-frame, length-named, number_n
 use Rattle.base.proofs.Pieces.{part_part}
 use Rattle.base.proofs.Lengths.{fits}
 use Rattle.aont.proofs.Sealed.{Bytes-frame_in, canary_block, length-frame_in, length-message_in}
-use Rattle.aont.proofs.Steps.{block_at}
+use Rattle.aont.proofs.Steps.{block_at, length_block}
 
 tested : (r : Bool) (xs ys : List ℕ) → Decides r (xs ≡ ys) → r ≡ bytes_eq xs ys
 tested r xs ys h = search (rules, bytes_eq-Decides)
 
 block_place : (bs : List ℕ) (i j : ℕ) → j < 16 → get_or (block (i + 1) bs) j 0 ≡ get_or bs (16 * i + j) 0
 block_place bs i j l = ap (λ b. get_or b j 0) (sym (block_at bs i)) ∙ get_or-take 16 (drop (16 * i) bs) j 0 l ∙ get_or-drop (16 * i) bs j 0
+
+-- a block that is zero from a place on, by its part from there on
+cleared : (r : Bool) (from : ℕ) (last : List ℕ) → length last ≡ 16 → Decides r (EachIndex (drop from last) (λ k. get_or (drop from last) k 0 ≡ 0))
+    → Decides r ((k : ℕ) → from ≤ k → k < 16 → get_or last k 0 ≡ get_or (replicate 16 0) k 0)
+cleared r from last long d = (
+  λ t k low l.
+      let j = k - from in
+      let same : k ≡ from + j = omega arith in
+      let within : j < length (drop from last) = omega (arith, length-drop from last) in
+      ap (λ m. get_or last m 0) same ∙ sym (get_or-drop from last j 0) ∙ d.0 t j within ∙ sym (get_or-replicate 16 k 0 0 l),
+  λ zeros. d.1 (λ j l.
+      let within : from + j < 16 = omega (arith, length-drop from last) in
+      get_or-drop from last j 0 ∙ zeros (from + j) (omega arith) within ∙ get_or-replicate 16 (from + j) 0 0 within),
+)
 
 -- a list of whole blocks ends in zeros where its last block does
 module _ (fr last : List ℕ) (i n : ℕ) (long : length fr ≡ 16 * i + 16) (place : (k : ℕ) → k < 16 → get_or last k 0 ≡ get_or fr (16 * i + k) 0) where
@@ -49,13 +63,8 @@ module _ (fr last : List ℕ) (i n : ℕ) (long : length fr ≡ 16 * i + 16) (pl
 
 module _ (E : List ℕ → List ℕ → List ℕ) (pkg : List ℕ) (fit : misfit (length pkg) ≡ false) where
   pub canary_test : (i : ℕ) (b : List ℕ) (r : Bool) → 16 * i ≡ length pkg - 32 → b ≡ block (i + 1) (message_in E pkg)
-      → Decides r ((k : ℕ) → 0 ≤ k → k < 16 → get_or b k 0 ≡ get_or canary k 0) → r ≡ bytes_eq (canary_in E pkg) canary
-  canary_test i b r at e d =
-      let same : b ≡ canary_in E pkg = e ∙ canary_block E pkg fit i at in
-      let wide : length b ≡ 16 =
-      ap length same ∙ length-drop (length pkg - 32) (message_in E pkg) ∙ omega (arith, length-message_in E pkg fit, fits (length pkg) fit) in
-      tested r (canary_in E pkg) canary
-      (λ t. sym same ∙ ext_get_or 0 b canary wide (λ k l. d.0 t k (omega arith) (omega arith)), λ eq. d.1 (λ k low l. ap (λ z. get_or z k 0) (same ∙ eq)))
+      → r ≡ bytes_eq b canary → r ≡ bytes_eq (canary_in E pkg) canary
+  canary_test i b r at e d = d ∙ ap (λ z. bytes_eq z canary) (e ∙ canary_block E pkg fit i at)
 
   -- the first block says of the frame what the frame itself says
   length_first : le_value (take 2 (block 1 (message_in E pkg))) ≡ le_value (take 2 (frame_in E pkg))
@@ -80,6 +89,10 @@ module _ (E : List ℕ → List ℕ → List ℕ) (pkg : List ℕ) (fit : misfit
 
   abbrev pub Padded : ℕ → List ℕ → Type 0
   Padded n last = (k : ℕ) → n + 20 - (length pkg - 32) ≤ k → k < 16 → get_or last k 0 ≡ get_or (replicate 16 0) k 0
+
+  -- what the code tests of the last block
+  abbrev pub Clear : ℕ → List ℕ → Type 0
+  Clear n last = let from = n + 20 - (length pkg - 32) in EachIndex (drop from last) (λ k. get_or (drop from last) k 0 ≡ 0)
 
   module _ (number : ℕ) (laws : CipherLaws number E) (bytes : Bytes pkg) (first : List ℕ) (e1 : first ≡ block 1 (message_in E pkg)) where
     size_first : le_value (take 2 first) ≡ le_value (take 2 (frame_in E pkg))
@@ -144,9 +157,12 @@ module _ (E : List ℕ → List ℕ → List ℕ) (pkg : List ℕ) (fit : misfit
           (λ t. absurd (both_ways true (sym t) refl), λ f. absurd (both_ways h left (header.1 (header_of f))))))
 
       module _ (taken : h ≡ true) (i : ℕ) (last : List ℕ) (at : 16 * i + 16 ≡ length pkg - 32) (e2 : last ≡ block (i + 1) (message_in E pkg))
-          (n : ℕ) (es : n ≡ le_value (take 2 first)) (r : Bool) (d2 : Decides r (Padded n last)) where
+          (n : ℕ) (es : n ≡ le_value (take 2 first)) (r : Bool) (d2 : Decides r (Clear n last)) where
         padding : Decides r (Padded (le_value (take 2 first)) last)
-        padding = subst (λ m. Decides r (Padded m last)) es d2
+        padding =
+            let within : 16 * i + 16 ≤ length (message_in E pkg) = omega (arith, length-message_in E pkg fit, fits (length pkg) fit) in
+            let long : length last ≡ 16 = ap length e2 ∙ length_block (message_in E pkg) i within in
+            subst (λ m. Decides r (Padded m last)) es (cleared r (n + 20 - (length pkg - 32)) last long d2)
 
         both : r ≡ framed E number pkg
         both =

@@ -1,4 +1,5 @@
-// The transform of blocks. Blocks are numbered from 1, and i is the place of block i + 1 among them.
+// The transform of blocks. Blocks are numbered from 1, and i is the place of block i + 1 among them. The loops go by i, since a
+// block's number goes into its mask and its hash, and no contract of the library says what a loop over as_chunks_mut leaves.
 ghost use Rattle.std.specs.Prelude.{◌≡◌, ◌+◌, ◌*◌, ◌%◌, ◌≤◌, ◌++◌, length, take, drop};
 ghost use Rattle.cipher.specs.Blocks.{xor};
 ghost use Rattle.aont.specs.Package.{block, number_block, masked, bound};

@@ -4,7 +4,8 @@ ghost use Rattle.aont.specs.Package.{package_length};
 ghost use Rattle.aont.specs.Seals.{seal_answer};
 
 use crate::fault::SealFault;
-use crate::{LONGEST_FILE, package_length};
+
+const LONGEST_FILE: usize = 4092;
 
 // The length of the package of a file of so many bytes.
 pub fn length_of_package(size: u16) -> usize
@@ -24,5 +25,5 @@ pub fn sealed_length(key: &[u8], file: &[u8]) -> Result<usize, SealFault>
     if key.len() != 16 {
         return Err(SealFault::KeyNotSixteen);
     }
-    Ok(package_length(file.len()))
+    Ok(length_of_package(file.len() as u16))
 }

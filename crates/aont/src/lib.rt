@@ -22,8 +22,6 @@ mod frame;
 mod lengths;
 mod opening;
 
-const LONGEST_FILE: usize = 4092;
-
 // Seals a file under a key that the caller draws, into the front of the output, and answers the package's length.
 // The rest of the output stays as it was, and all of it on a refusal: the file is too long, the key has not sixteen
 // bytes, or the output is too short, in that order.
@@ -31,13 +29,7 @@ pub fn seal<C: Cipher>(key: &[u8], file: &[u8], out: &mut [u8]) -> Result<usize,
     ensures answers { result ≡ seal_answer (length file.now) (length key.now) (length out.old) }
     ensures fills { out.new ≡ leaves result out.old (over (sealed C.Cipher.encrypted C.Cipher.number key.now file.now) out.old) }
 {
-    if file.len() > LONGEST_FILE {
-        return Err(SealFault::FileTooLong);
-    }
-    if key.len() != 16 {
-        return Err(SealFault::KeyNotSixteen);
-    }
-    let length = package_length(file.len());
+    let length = sealed_length(key, file)?;
     if out.len() < length {
         return Err(SealFault::OutputShort);
     }
@@ -78,13 +70,6 @@ fn unseal_tested<C: Cipher>(package: &[u8], out: &mut [u8]) -> Result<usize, Sea
     Ok(size)
 }
 
-fn package_length(file: usize) -> usize
-    requires { file ≤ 4092 }
-    ensures { result ≡ package_length file }
-{
-    length_of_package(file as u16)
-}
-
 // Writes a package into the front of an output that is long enough.
 fn seal_into<C: Cipher>(key: &[u8], file: &[u8], out: &mut [u8])
     requires short { length file.now ≤ 4092 }
@@ -94,7 +79,7 @@ fn seal_into<C: Cipher>(key: &[u8], file: &[u8], out: &mut [u8])
 {
     let key = block_at(key, 0);
     let cipher = C::with_key(&key);
-    let end = package_length(file.len()) - 16;
+    let end = length_of_package(file.len() as u16) - 16;
     lay_out(C::cipher_number(), file, out);
     mask_blocks(&cipher, &mut out[0..end]);
     let last = bind::<C>(key, &out[0..end]);

@@ -8,7 +8,8 @@ ghost use Rattle.aont.specs.Package.{block, canary, canary_in, key_in, message_i
 ghost use Rattle.aont.specs.Seals.{framed, unsealed};
 
 use crate::blocks::{bind, block_at, masked_block, put};
-use crate::frame::{header_fits, is_canary, is_padded, length_in};
+use crate::frame::{header_fits, is_canary, is_padded};
+use base::u16_at;
 use cipher::Cipher;
 
 // The key that a package's last block binds.
@@ -50,7 +51,7 @@ pub(crate) fn file_length<C: Cipher>(cipher: &C, package: &[u8]) -> Option<usize
     if !header_fits(&first, C::cipher_number(), frame) {
         return None;
     }
-    let size = usize::from(length_in(&first));
+    let size = usize::from(u16_at(&first, 0));
     let last = plain_block(cipher, package, frame / 16 - 1);
     if !is_padded(&last, size + 20 - frame) {
         return None;
@@ -66,7 +67,7 @@ pub(crate) fn write_file<C: Cipher>(cipher: &C, package: &[u8], size: usize, out
     requires room { size ≤ length out.old }
     ensures { out.new ≡ over (unsealed C.Cipher.encrypted C.Cipher.number «package».now) out.old }
 {
-    // block i + 1 holds the frame from byte 16 i on, and the file begins at the frame's byte 4
+    // by number, which the mask needs: block i + 1 holds the frame from byte 16 i on, and the file begins at the frame's byte 4
     for i in 0..(size + 19) / 16 {
         let plain = plain_block(cipher, package, i);
         let at = (16 * i).saturating_sub(4);

@@ -1,2 +1,3 @@
-pub mod Fills
 pub mod Xor
+pub mod Made
+pub mod Chunks

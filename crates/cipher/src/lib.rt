@@ -5,6 +5,8 @@
 ghost use Rattle.std.specs.Prelude.{◌≡◌, ℕ, List};
 ghost use Rattle.cipher.specs.Blocks.{Block, CipherLaws, xor};
 
+use std::array;
+
 pub trait Cipher: Sized + Drop {
     // the number that a sealed file carries; clauses know it as `number`
     const NUMBER: u16;
@@ -35,9 +37,5 @@ pub trait Cipher: Sized + Drop {
 pub fn xor16(a: &[u8; 16], b: &[u8; 16]) -> [u8; 16]
     ensures { result ≡ xor a.now b.now }
 {
-    let mut r = [0u8; 16];
-    for i in 0..16usize {
-        r[i] = a[i] ^ b[i];
-    }
-    r
+    array::from_fn(|i| a[i] ^ b[i])
 }

@@ -1,11 +1,12 @@
 -- The rounds on a block's two words, and those on a key's, are the rounds on all four: proofs, nobody has to believe them.
 -- Assumes nothing.
-use Rattle.std.specs.Prelude.{◌≡◌, ℕ, zero, suc, ◌+◌, ◌%◌, ◌^◌, ◌<◌, List, [], ◌∷◌, ◌++◌, length, bit_xor, slice_index, slice_set, refl}
+use Rattle.std.specs.Prelude.{◌≡◌, ℕ, ◌+◌, ◌%◌, ◌^◌, ◌<◌, List, length, bit_xor, slice_index, slice_set, refl}
 use Rattle.std.proofs.Common.{ap, ◌∙◌, add_comm, add-one, arith}
 use Rattle.std.proofs.lemmas.List.Edits.{fill_by_more}
 use Rattle.std.proofs.lemmas.List.{length-set}
-use Rattle.base.specs.Bytes.{Bytes, le_bytes}
+use Rattle.base.specs.Bytes.{le_bytes}
 use Rattle.base.proofs.Little.{Bytes-le_bytes}
+use Rattle.base.proofs.Parts.{Bytes-append}
 use Rattle.cipher.specs.Blocks.{Block, CipherLaws}
 use Rattle.speck128.specs.Speck.{Words, ror, rol, rounds, start, joined, speck}
 
@@ -46,11 +47,6 @@ begun_more key ks i l k r s b less t =
       written = λ block. rw (b.words block).1 (fill_by_more (λ j. (rounds j (start key block)).k) ks i 0 within (b.written block));
       words = λ block. key_more i (start key block) l k r s (b.words block).0 (b.words block).1 t;
     }
-
-Bytes-append : (a b : List ℕ) → Bytes a → Bytes b → Bytes (a ++ b)
-Bytes-append [] b ha hb i = hb i
-Bytes-append (x ∷ a) b ha hb zero = ha 0
-Bytes-append (x ∷ a) b ha hb (suc i) = Bytes-append a b (λ j. ha (suc j)) hb i
 
 pub speck_block : (key block : List ℕ) → Block (speck key block)
 unfolding joined

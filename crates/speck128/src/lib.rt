@@ -8,6 +8,7 @@ ghost use Rattle.speck128.specs.Speck.{ror, rol, rounds, start, joined, speck};
 ghost use Rattle.speck128.specs.Rounds.{speck_laws};
 
 use cipher::Cipher;
+use std::array;
 
 // A key with its 32 round keys.
 #[derive(Drop)]
@@ -24,35 +25,30 @@ struct Pair {
     y: u64,
 }
 
-// The eight bytes from a place on, little-endian.
-fn word_at(bytes: &[u8; 16], at: usize) -> u64
-    requires { at ≤ 8 }
-    ensures { result ≡ le_value (part bytes.now at 8) }
-{
-    u64::from_le_bytes([
-        bytes[at],
-        bytes[at + 1],
-        bytes[at + 2],
-        bytes[at + 3],
-        bytes[at + 4],
-        bytes[at + 5],
-        bytes[at + 6],
-        bytes[at + 7],
-    ])
+// The words of a block or of a key: y and then x.
+impl From<&[u8; 16]> for Pair {
+    ghost from_gives = { λ bytes pair. (pair.x ≡ le_value (part bytes.now 8 8)) × (pair.y ≡ le_value (part bytes.now 0 8)) };
+
+    fn from(bytes: &[u8; 16]) -> Pair {
+        let (words, _) = bytes.as_chunks::<8>();
+        Pair {
+            x: u64::from_le_bytes(words[1]),
+            y: u64::from_le_bytes(words[0]),
+        }
+    }
+}
+
+// The bytes of a block: y and then x.
+impl From<Pair> for [u8; 16] {
+    ghost from_gives = { λ pair bytes. bytes ≡ joined pair.y pair.x };
+
+    fn from(pair: Pair) -> [u8; 16] {
+        let words = [pair.y.to_le_bytes(), pair.x.to_le_bytes()];
+        array::from_fn(|i| words[i / 8][i % 8])
+    }
 }
 
 impl Pair {
-    // The words of a block or of a key.
-    fn read(bytes: &[u8; 16]) -> Pair
-        ensures x { result.x ≡ le_value (part bytes.now 8 8) }
-        ensures y { result.y ≡ le_value (part bytes.now 0 8) }
-    {
-        Pair {
-            x: word_at(bytes, 8),
-            y: word_at(bytes, 0),
-        }
-    }
-
     // One round with its round key. A key's words go through the same round, with the round's number.
     fn turned(self, k: u64) -> Pair
         ensures x { result.x ≡ bit_xor ((ror self.x 8 + self.y) % 2 ^ 64) k }
@@ -62,28 +58,16 @@ impl Pair {
         let y = self.y.rotate_left(3) ^ x;
         Pair { x, y }
     }
-
-    // The bytes of a block: y and then x.
-    fn written(self) -> [u8; 16]
-        ensures { result ≡ joined self.y self.x }
-    {
-        let y = self.y.to_le_bytes();
-        let x = self.x.to_le_bytes();
-        [
-            y[0], y[1], y[2], y[3], y[4], y[5], y[6], y[7], x[0], x[1], x[2], x[3], x[4], x[5],
-            x[6], x[7],
-        ]
-    }
 }
 
 // The round keys of a key.
 fn schedule(key: &[u8; 16]) -> [u64; 32]
     ensures { RoundKeys key.now result }
 {
-    let mut words = Pair::read(key);
+    let mut words = Pair::from(key);
     let mut round_keys = [0u64; 32];
-    for i in 0..32usize {
-        round_keys[i] = words.y;
+    for (i, round_key) in round_keys.iter_mut().enumerate() {
+        *round_key = words.y;
         words = words.turned(i as u64);
     }
     round_keys
@@ -95,7 +79,7 @@ impl Speck128 {
         ensures x { result.x ≡ (rounds 32 (start self.now.key block.now)).x }
         ensures y { result.y ≡ (rounds 32 (start self.now.key block.now)).y }
     {
-        let mut words = Pair::read(block);
+        let mut words = Pair::from(block);
         for k in &self.round_keys {
             words = words.turned(*k);
         }
@@ -126,6 +110,6 @@ impl Cipher for Speck128 {
     }
 
     fn encrypt(&self, block: &[u8; 16]) -> [u8; 16] {
-        self.run(block).written()
+        self.run(block).into()
     }
 }

@@ -3,18 +3,18 @@ use Rattle.aes128.specs.Aes.{xtime, rcon, round_key}
 use Rattle.aes128.proofs.Rounds.{begun_more, begun_all}
 use Rattle.aes128.proofs.schedule.Goals as goal
 
-pub loop-i-init : goal.loop-i-init
+pub loop-slot-init : goal.loop-slot-init
 unfolding rcon round_key
-loop-i-init c = ((refl, λ r less. absurd (omega arith)), refl, refl)
+loop-slot-init c = ((refl, λ r less. absurd (omega arith)), c.from-round_key.ensures, refl)
 
-pub loop-i-preserved : goal.loop-i-preserved
+pub loop-slot-preserved : goal.loop-slot-preserved
 unfolding rcon round_key
-loop-i-preserved c =
-    let inv = c.loop-i.invariant in (
-      begun_more c.args.key.now c.loop-i.round_keys c.loop-i.i c.read.result c.loop-i-test.true inv.0 (c.read.ensures ∙ inv.1),
-      rw add-one (c.next_key-k.ensures ∙ simp (inv.1, inv.2)),
+loop-slot-preserved c =
+    let inv = c.loop-slot.invariant in (
+      begun_more c.args.key.now c.loop-slot.slot-items c.loop-slot.slot-index _ c.loop-slot-test.true inv.0 inv.1,
+      rw add-one (c.next_key-round_key.ensures ∙ simp (inv.1, inv.2)),
       rw add-one (c.double-constant.ensures ∙ ap xtime inv.2),
     )
 
 pub returns : goal.returns
-returns c = begun_all c.args.key.now c.loop-i.round_keys c.loop-i.i c.loop-i-test.false c.loop-i.invariant.0
+returns c = begun_all c.args.key.now c.loop-slot.slot-items c.loop-slot.slot-index c.loop-slot-test.false c.loop-slot.invariant.0

@@ -6,4 +6,4 @@ use Rattle.aes128.proofs.Aes128.round_key.Goals as goal
 pub returns : goal.returns
 returns c =
     let self = c.args.self.now in
-    c.written.ensures ∙ key_at_lem self.key self.round_keys self.scheduled _ c.min.result (omega arith) ∙ ap (round_key self.key) c.min.ensures
+    c.into.ensures ∙ key_at_lem self.key self.round_keys self.scheduled _ c.min.result (omega arith) ∙ ap (round_key self.key) c.min.ensures

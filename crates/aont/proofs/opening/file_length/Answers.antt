@@ -17,7 +17,7 @@ returns-then-not-is_padded g c =
     no_padding g.C.Cipher.encrypted pkg c.requires.fit g.C.Cipher.number g.met.C.Cipher.lawful
     (λ j. (c.type_inv.package j).fits) c.plain_block-first.result c.plain_block-first.ensures
     c.cipher_number.result c.cipher_number.ensures c.header_fits.result c.header_fits.ensures c.if-not-header_fits.false
-    i c.plain_block-last.result at c.plain_block-last.ensures c.from-size.result (c.from-size.ensures ∙ c.length_in.ensures)
+    i c.plain_block-last.result at c.plain_block-last.ensures c.from-size.result (c.from-size.ensures ∙ c.u16_at.ensures)
     c.is_padded.result c.is_padded.ensures c.if-not-is_padded.true
 
 pub returns : goal.returns
@@ -28,5 +28,5 @@ returns g c =
     its_length g.C.Cipher.encrypted pkg c.requires.fit g.C.Cipher.number g.met.C.Cipher.lawful
     (λ j. (c.type_inv.package j).fits) c.plain_block-first.result c.plain_block-first.ensures
     c.cipher_number.result c.cipher_number.ensures c.header_fits.result c.header_fits.ensures c.if-not-header_fits.false
-    i c.plain_block-last.result at c.plain_block-last.ensures c.from-size.result (c.from-size.ensures ∙ c.length_in.ensures)
+    i c.plain_block-last.result at c.plain_block-last.ensures c.from-size.result (c.from-size.ensures ∙ c.u16_at.ensures)
     c.is_padded.result c.is_padded.ensures c.if-not-is_padded.false

@@ -5,7 +5,7 @@ use Rattle.speck128.proofs.Speck128.run.Goals as goal
 
 pub loop-k-init : goal.loop-k-init
 unfolding rounds
-loop-k-init c = (c.read-words.ensures.x, c.read-words.ensures.y)
+loop-k-init c = (c.from-words.ensures.0, c.from-words.ensures.1)
 
 pub loop-k-preserved : goal.loop-k-preserved
 loop-k-preserved c =
