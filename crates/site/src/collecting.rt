@@ -1,5 +1,5 @@
 // The records that a file is restored from.
-ghost use Rattle.std.specs.Prelude.{◌≡◌, ◌<◌, ◌≤◌, length, take, IfOk};
+ghost use Rattle.std.specs.Prelude.{◌≡◌, ◌<◌, take, IfOk};
 ghost use Rattle.base.specs.Bytes.{over};
 ghost use Rattle.site.specs.Model.{kept, positions, records};
 ghost use Rattle.site.specs.Steps.{ended, enough};
@@ -10,6 +10,7 @@ use crate::files::Kept;
 use crate::site::Site;
 use algebra::Field;
 use cipher::Cipher;
+use memory::LEAST;
 use rows::row::Row;
 use standing::{gather, lowest_standing, survey_of};
 
@@ -20,15 +21,13 @@ impl<R: Row, C: Cipher, F: Field> Site<R, C, F> {
         &self,
         file: usize,
         last: Kept,
-        out: &mut [u8],
+        out: &mut [u8; LEAST],
     ) -> Result<[u8; 16], SiteCause>
         requires there { file < 8 }
         requires same { last ≡ kept (model_of R.ReadRow F.Field C.Cipher self.now) file }
-        requires room { 6400 ≤ length out.old }
         ensures answers { ended result ≡ enough (model_of R.ReadRow F.Field C.Cipher self.now) file }
         ensures positions { IfOk result (λ ps. take self.now.plan.k ps ≡ positions (model_of R.ReadRow F.Field C.Cipher self.now) file) }
         ensures records { IfOk result (λ ps. out.new ≡ over (records (model_of R.ReadRow F.Field C.Cipher self.now) file) out.old) }
-        ensures long { length out.new ≡ length out.old }
     {
         let k = self.plan.needed();
         let n = self.plan.fitted();

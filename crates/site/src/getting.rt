@@ -1,8 +1,8 @@
 // Getting a file.
-ghost use Rattle.std.specs.Prelude.{◌≡◌, ◌<◌, ◌≤◌, length, take, IfOk, Some, None, OnOk};
+ghost use Rattle.std.specs.Prelude.{◌≡◌, ◌<◌, length, take, IfOk, Some, None, OnOk, is_none};
 ghost use Rattle.base.specs.Answers.{leaves};
 ghost use Rattle.base.specs.Bytes.{over};
-ghost use Rattle.memory.specs.Zeros.{short, zeroed};
+ghost use Rattle.memory.specs.Lent.{Wiped, is_short};
 ghost use Rattle.aont.specs.Seals.{unseal_answer, unsealed};
 ghost use Rattle.erasure.specs.Records.{coding};
 ghost use Rattle.recovery.specs.Answers.{join_answer};
@@ -20,7 +20,7 @@ use algebra::Field;
 use aont::{SealFault, length_of_package, unseal};
 use cipher::Cipher;
 use erasure::{Plan, SliceFault};
-use memory::{Work, is_short, wipe_all};
+use memory::{Buffers, Work, wipe_all};
 use recovery::join;
 use rows::row::Row;
 
@@ -66,25 +66,25 @@ fn open<C: Cipher, F: Field>(
 }
 
 impl<R: Row, C: Cipher, F: Field> Site<R, C, F> {
-    // Restores a file, of which this is kept, into the front of a buffer.
+    // Restores a file, of which this is kept, into the front of its buffer.
     fn restore(
         &self,
         file: usize,
         last: Kept,
-        sealed: &mut [u8],
-        records: &mut [u8],
-        opened: &mut [u8],
+        buffers: &mut Buffers<'_>,
     ) -> Result<usize, SiteCause>
         requires there { file < 8 }
         requires same { last ≡ kept (model_of R.ReadRow F.Field C.Cipher self.now) file }
-        requires room { (6400 ≤ length sealed.old) × ((6400 ≤ length records.old) × (6400 ≤ length opened.old)) }
         ensures answers { result ≡ restored_answer (model_of R.ReadRow F.Field C.Cipher self.now) file }
-        ensures restores { IfOk result (λ n. (n ≡ length (got_file (model_of R.ReadRow F.Field C.Cipher self.now) file)) × (take n opened.new ≡ got_file (model_of R.ReadRow F.Field C.Cipher self.now) file)) }
+        ensures restores { IfOk result (λ n. (n ≡ length (got_file (model_of R.ReadRow F.Field C.Cipher self.now) file)) × (take n buffers.new.opened.now ≡ got_file (model_of R.ReadRow F.Field C.Cipher self.now) file)) }
     {
-        let positions = self.collect(file, last, records)?;
+        let positions = self.collect(file, last, buffers.records)?;
         let k = self.plan.needed();
         let whole = usize::from(self.due(last).whole);
         let bytes = length_of_package(last.size);
+        let records = &*buffers.records;
+        let sealed = &mut *buffers.sealed;
+        let opened = &mut *buffers.opened;
         open::<C, F>(
             &self.plan,
             &positions[0..k],
@@ -99,22 +99,20 @@ impl<R: Row, C: Cipher, F: Field> Site<R, C, F> {
         &self,
         file: usize,
         out: &mut [u8],
-        sealed: &mut [u8],
-        spread: usize,
-        records: &mut [u8],
-        opened: &mut [u8],
+        buffers: Option<&mut Buffers<'_>>,
     ) -> Result<usize, SiteCause>
-        ensures answers { result ≡ get_answer (model_of R.ReadRow F.Field C.Cipher self.now) file (length out.old) (short (length sealed.old) spread (length records.old) (length opened.old)) }
+        ensures answers { result ≡ get_answer (model_of R.ReadRow F.Field C.Cipher self.now) file (length out.old) (is_none buffers.entry) }
         ensures fills { out.new ≡ leaves result out.old (over (got_file (model_of R.ReadRow F.Field C.Cipher self.now) file) out.old) }
     {
         let last = self.current(file)?;
-        if is_short(sealed.len(), spread, records.len(), opened.len()) {
+        let Some(buffers) = buffers else {
             return Err(SiteCause::MemoryShort);
-        }
+        };
         if out.len() < usize::from(last.size) {
             return Err(SiteCause::OutputShort);
         }
-        let size = self.restore(file, last, sealed, records, opened)?;
+        let size = self.restore(file, last, buffers)?;
+        let opened = &*buffers.opened;
         out[0..size].copy_from_slice(&opened[0..size]);
         Ok(size)
     }
@@ -124,12 +122,9 @@ impl<R: Row, C: Cipher, F: Field> Site<R, C, F> {
     // it, their records are those of no package, or the package is that of no file of that length, in that order. The working
     // memory is zero afterwards.
     pub fn get(&self, file: usize, out: &mut [u8], work: Work<'_>) -> Result<usize, SiteFault>
-        ensures answers { result ≡ named None (Some file) (get_answer (model_of R.ReadRow F.Field C.Cipher self.now) file (length out.old) (short (length work.entry.sealed.now) (length work.entry.spread.now) (length work.entry.records.now) (length work.entry.opened.now))) }
+        ensures answers { result ≡ named None (Some file) (get_answer (model_of R.ReadRow F.Field C.Cipher self.now) file (length out.old) (is_short work.entry)) }
         ensures fills { out.new ≡ leaves result out.old (over (got_file (model_of R.ReadRow F.Field C.Cipher self.now) file) out.old) }
-        ensures sealed { work.exit.0.now ≡ zeroed work.entry.sealed.now }
-        ensures spread { work.exit.1.0.now ≡ zeroed work.entry.spread.now }
-        ensures records { work.exit.1.1.0.now ≡ zeroed work.entry.records.now }
-        ensures opened { work.exit.1.1.1.0.now ≡ zeroed work.entry.opened.now }
+        ensures wiped { Wiped work.entry work.exit }
     {
         let Work {
             sealed,
@@ -137,7 +132,8 @@ impl<R: Row, C: Cipher, F: Field> Site<R, C, F> {
             records,
             opened,
         } = work;
-        let answer = self.get_in(file, out, sealed, spread.len(), records, opened);
+        let mut buffers = Buffers::of(sealed, spread, records, opened);
+        let answer = self.get_in(file, out, buffers.as_mut());
         wipe_all(sealed, spread, records, opened);
         told(answer, None, Some(file))
     }

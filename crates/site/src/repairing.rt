@@ -1,5 +1,5 @@
 // Records that cabinets lack, made anew from those of the others.
-ghost use Rattle.std.specs.Prelude.{◌≡◌, ◌<◌, ◌≤◌, true, ◌&&◌, length, Some, None, Ok, nat_lt};
+ghost use Rattle.std.specs.Prelude.{◌≡◌, ◌<◌, ◌≤◌, true, ◌&&◌, length, Some, None, Ok, is_none, nat_lt};
 ghost use Rattle.base.specs.Answers.{leaves, pass};
 ghost use Rattle.erasure.specs.Records.{coding};
 ghost use Rattle.recovery.specs.Answers.{rebuild_answer};
@@ -7,11 +7,11 @@ ghost use Rattle.recovery.specs.Formula.{rebuilt};
 ghost use Rattle.rows.specs.Model.{Held, with_slot};
 ghost use Rattle.site.specs.declared.fault.SiteCause.TheVariants.{Slice};
 ghost use Rattle.standing.specs.Sets.{members};
-ghost use Rattle.memory.specs.Zeros.{short, zeroed};
+ghost use Rattle.memory.specs.Lent.{Wiped, is_short};
 ghost use Rattle.site.specs.Calls.{repair_after, repair_answer};
 ghost use Rattle.site.specs.Faults.{named};
 ghost use Rattle.site.specs.Model.{record_bytes, with_slots};
-ghost use Rattle.site.specs.Steps.{Long, lacks, rebuild_for, rewrites};
+ghost use Rattle.site.specs.Steps.{lacks, rebuild_for, rewrites};
 ghost use Rattle.site.specs.Whole.{model_of};
 
 use crate::fault::{SiteCause, SiteFault};
@@ -20,7 +20,7 @@ use algebra::Field;
 use aont::length_of_package;
 use cipher::Cipher;
 use erasure::{Head, Plan};
-use memory::{Wipe, Work, is_short};
+use memory::{Buffers, LEAST, Work, wipe_all};
 use recovery::rebuild;
 use rows::row::{ReadRow, Row};
 use standing::{cause_at, in_reach};
@@ -66,11 +66,10 @@ fn rewrite_lacking<R: Row, F: Field>(
     records: &[u8],
     file: usize,
     due: Head,
-    spread: &mut [u8],
+    spread: &mut [u8; LEAST],
 ) -> Result<usize, SiteCause>
     requires there { file < 8 }
     requires due { due.whole ≡ record_bytes (coding F.Field.ops F.Field.width F.Field.stored F.Field.number plan.now.k) bytes }
-    requires room { 6400 ≤ length spread.old }
     ensures answers { result ≡ rewrites (rebuild_for (coding F.Field.ops F.Field.width F.Field.stored F.Field.number plan.now.k) plan.now.n bytes positions.now records.now due.whole) (members (lacks (R.ReadRow.model row.old) due file) plan.now.n) }
     ensures becomes { R.ReadRow.model row.new ≡ leaves result (R.ReadRow.model row.old) (with_slots (R.ReadRow.model row.old) (λ c. nat_lt c plan.now.n && lacks (R.ReadRow.model row.old) due file c) file (λ c. Held (rebuilt (coding F.Field.ops F.Field.width F.Field.stored F.Field.number plan.now.k) bytes positions.now records.now c))) }
 {
@@ -98,19 +97,14 @@ impl<R: Row, C: Cipher, F: Field> Site<R, C, F> {
     fn repair_in(
         &mut self,
         file: usize,
-        records: &mut [u8],
-        spread: &mut [u8],
-        short: bool,
+        mut buffers: Option<Buffers<'_>>,
     ) -> Result<usize, SiteCause>
-        requires { Long short records.old spread.old }
-        ensures answers { result ≡ repair_answer (model_of R.ReadRow F.Field C.Cipher self.old) file short }
+        ensures answers { result ≡ repair_answer (model_of R.ReadRow F.Field C.Cipher self.old) file (is_none buffers.entry) }
         ensures becomes { model_of R.ReadRow F.Field C.Cipher self.new ≡ leaves result (model_of R.ReadRow F.Field C.Cipher self.old) (repair_after (model_of R.ReadRow F.Field C.Cipher self.old) file) }
     {
         let last = self.current(file)?;
-        if short {
-            return Err(SiteCause::MemoryShort);
-        }
-        let positions = self.collect(file, last, records)?;
+        let buffers = buffers.as_mut().ok_or(SiteCause::MemoryShort)?;
+        let positions = self.collect(file, last, buffers.records)?;
         let due = self.due(last);
         let plan = self.plan;
         let k = plan.needed();
@@ -119,50 +113,20 @@ impl<R: Row, C: Cipher, F: Field> Site<R, C, F> {
             &plan,
             length_of_package(last.size),
             &positions[0..k],
-            &records[0..k * usize::from(due.whole)],
+            &buffers.records[0..k * usize::from(due.whole)],
             file,
             due,
-            spread,
+            buffers.spread,
         )
-    }
-
-    // The same, and then wipes the working memory.
-    fn repair_wiping(
-        &mut self,
-        file: usize,
-        sealed: &mut [u8],
-        spread: &mut [u8],
-        records: &mut [u8],
-        opened: &mut [u8],
-    ) -> Result<usize, SiteCause>
-        ensures answers { result ≡ repair_answer (model_of R.ReadRow F.Field C.Cipher self.old) file (short (length sealed.old) (length spread.old) (length records.old) (length opened.old)) }
-        ensures becomes { model_of R.ReadRow F.Field C.Cipher self.new ≡ leaves result (model_of R.ReadRow F.Field C.Cipher self.old) (repair_after (model_of R.ReadRow F.Field C.Cipher self.old) file) }
-        ensures sealed { sealed.new ≡ zeroed sealed.old }
-        ensures spread { spread.new ≡ zeroed spread.old }
-        ensures records { records.new ≡ zeroed records.old }
-        ensures opened { opened.new ≡ zeroed opened.old }
-    {
-        let short = is_short(sealed.len(), spread.len(), records.len(), opened.len());
-        let answer = self.repair_in(file, records, spread, short);
-        let _wipe = Wipe {
-            sealed,
-            spread,
-            records,
-            opened,
-        };
-        answer
     }
 
     // Rebuilds the records of a file that cabinets in reach lack, each from those of the k lowest cabinets that stand, and answers
     // how many it wrote. Refuses a file that is not there or not current, working memory that is too short, fewer than k cabinets
     // that stand, and records of which one has no code; then nothing is written. The working memory is zero afterwards.
     pub fn repair(&mut self, file: usize, work: Work<'_>) -> Result<usize, SiteFault>
-        ensures answers { result ≡ named None (Some file) (repair_answer (model_of R.ReadRow F.Field C.Cipher self.old) file (short (length work.entry.sealed.now) (length work.entry.spread.now) (length work.entry.records.now) (length work.entry.opened.now))) }
+        ensures answers { result ≡ named None (Some file) (repair_answer (model_of R.ReadRow F.Field C.Cipher self.old) file (is_short work.entry)) }
         ensures becomes { model_of R.ReadRow F.Field C.Cipher self.new ≡ leaves result (model_of R.ReadRow F.Field C.Cipher self.old) (repair_after (model_of R.ReadRow F.Field C.Cipher self.old) file) }
-        ensures sealed { work.exit.0.now ≡ zeroed work.entry.sealed.now }
-        ensures spread { work.exit.1.0.now ≡ zeroed work.entry.spread.now }
-        ensures records { work.exit.1.1.0.now ≡ zeroed work.entry.records.now }
-        ensures opened { work.exit.1.1.1.0.now ≡ zeroed work.entry.opened.now }
+        ensures wiped { Wiped work.entry work.exit }
     {
         let Work {
             sealed,
@@ -170,7 +134,8 @@ impl<R: Row, C: Cipher, F: Field> Site<R, C, F> {
             records,
             opened,
         } = work;
-        let answer = self.repair_wiping(file, sealed, spread, records, opened);
+        let answer = self.repair_in(file, Buffers::of(sealed, spread, records, opened));
+        wipe_all(sealed, spread, records, opened);
         told(answer, None, Some(file))
     }
 }

@@ -20,7 +20,6 @@ write_at-requires g c = record {
   issued = c.requires.issued;
   fits = c.requires.fits;
   room = omega (arith, c.requires.room, ap (λ m. m.room) c.loop-c.invariant);
-  memory = omega (arith, c.requires.memory, c.loop-c.auto.out);
 }
 
 pub loop-c-preserved : goal.loop-c-preserved

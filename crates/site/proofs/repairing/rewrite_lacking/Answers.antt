@@ -30,7 +30,7 @@ returns-in_err-rewrite g c =
     let model = g.R.ReadRow.model in
     let e = err_from_is_err_and c.from_residual.result c.from_residual.ensures.1 in
     let p = round-refused (coding f.ops f.width f.stored f.number a.plan.now.k) a.plan.now.n a.bytes a.positions.now a.records.now a.due a.file (model a.row.now)
-    l.c l.count (model l.row) l.invariant c.lacks.result c.lacks.ensures (g.R.ReadRow.sound l.row) l.spread (omega (arith, l.auto.spread, c.requires.room)) c.from-whole.result
+    l.c l.count (model l.row) l.invariant c.lacks.result c.lacks.ensures (g.R.ReadRow.sound l.row) l.spread (omega arith) c.from-whole.result
     c.from-whole.ensures c.if-lacks.true (model c.rewrite.new.row) c.rewrite.result c.rewrite.ensures.answers c.rewrite.ensures.becomes c.in_err-rewrite.field-0.0
     c.from_residual.result (omega (arith, c.loop-c-test.true, c.fitted-c-end.ensures)) c.in_err-rewrite.was (e.1 ∙ ap Err e.2) in
     record { answers = p.answers; becomes = p.becomes }
@@ -52,7 +52,7 @@ loop-c-preserved g c =
     (subst (λ x. Round C n a.bytes ps rs a.due a.file m (l.c + 1) count (model x)) (sym e) h) in
     elim c.if-lacks.branch [
       | then-lacks+in_ok-rewrite w ↦ to _ _ w.row-is w.count-is (round_next C n a.bytes ps rs a.due a.file m l.c l.count (model l.row) l.invariant
-          c.lacks.result c.lacks.ensures (g.R.ReadRow.sound l.row) l.spread (omega (arith, l.auto.spread, c.requires.room)) c.from-whole.result c.from-whole.ensures
+          c.lacks.result c.lacks.ensures (g.R.ReadRow.sound l.row) l.spread (omega arith) c.from-whole.result c.from-whole.ensures
           w.if-lacks.true (model w.rewrite.new.row) w.rewrite.result w.rewrite.ensures.answers w.rewrite.ensures.becomes w.in_ok-rewrite.was)
       | else-lacks w ↦ to _ _ w.row-is w.count-is (round_past C n a.bytes ps rs a.due a.file m l.c l.count (model l.row) l.invariant c.lacks.result c.lacks.ensures w.if-lacks.false)
     ]

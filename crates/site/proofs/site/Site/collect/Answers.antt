@@ -14,5 +14,5 @@ returns g c =
     let told = c.lowest_standing-lowest.ensures in
     let done = collected S plan.2 f k c.fitted-n.result low.found c.args.last c.due-due.result low.positions c.requires.same c.needed-k.ensures c.fitted-n.ensures c.due-due.ensures
     told.found told.positions c.if-lowest-k.false (take (k - 0) low.positions) c.args.out.now c.gather.new.out c.from.result (ap (λ m. take m low.positions) (sub-zero k)) c.from.ensures
-    (records-bound S f g.met.F.Field.widths plan.0 (omega (arith, plan))) c.requires.room c.gather.ensures.records in
-    record { answers = done.0; positions = done.1; records = done.2; long = c.gather.ensures.long }
+    (records-bound S f g.met.F.Field.widths plan.0 (omega (arith, plan))) (omega arith) c.gather.ensures.records in
+    record { answers = done.0; positions = done.1; records = done.2 }

@@ -19,7 +19,7 @@ slice_bounds-rewrite-end-2 g c =
     let end : c.needed-k.result * c.from-whole.result ≤ length c.collect.new.out = omega (
       arith,
       all,
-      within S f (g.R.ReadRow.sound c.args.self.now.row) (omega (arith, c.args.self.now.plan.fits)) more c.args.records.now c.collect.new.out got.records got.long,
+      within S f (g.R.ReadRow.sound c.args.self.now.row) (omega (arith, c.args.self.now.plan.fits)) more c.args.buffers.now.records.now c.collect.new.out got.records,
     ) in
     search rules
 
@@ -29,9 +29,9 @@ slice_bounds-rewrite-end-3 g c =
     let f = c.args.file in
     let last = c.in-Ok.last in
     let here = sym c.current.ensures ∙ c.in-Ok.is in
-    let end : c.from-whole.result ≤ length c.args.spread.now =
-    spread_end S c.args.cabinet f c.args.short last here c.due-due.result (c.due-due.ensures ∙ ap (due_for S.fit) (is_kept S f last here))
-    (sym c.takes.ensures ∙ c.if-not-takes.false) (g.R.ReadRow.sound c.args.self.now.row) c.args.records.now c.args.spread.now c.requires.long c.from-whole.result c.from-whole.ensures in
+    let end : c.from-whole.result ≤ length c.args.buffers.now.spread.now =
+    spread_end S c.args.cabinet f last here c.due-due.result (c.due-due.ensures ∙ ap (due_for S.fit) (is_kept S f last here))
+    (sym c.takes.ensures ∙ c.if-not-takes.false) (g.R.ReadRow.sound c.args.self.now.row) c.args.buffers.now.spread.now (omega arith) c.from-whole.result c.from-whole.ensures in
     search rules
 
 pub returns : goal.returns
@@ -54,11 +54,11 @@ returns g c =
     let all : k * w ≡ needed S * whole S f = ap (λ q. q * w) c.needed-k.ensures ∙ ap (λ q. needed S * q) (c.from-whole.ensures ∙ ap (λ h. h.whole) due) in
     let size : k * w - 0 ≡ needed S * whole S f = omega (arith, all) in
     let rs : take (k * w - 0) out ≡ records S f =
-    collected S f sound (omega (arith, c.args.self.now.plan.fits)) more c.args.records.now out got.records got.long (k * w - 0) size in
+    collected S f sound (omega (arith, c.args.self.now.plan.fits)) more c.args.buffers.now.records.now out got.records (k * w - 0) size in
     record {
-      answers = refill_told S c.args.cabinet f c.args.short last here c.due-due.result due can sound c.args.records.now c.args.spread.now c.requires.long w c.from-whole.ensures more
+      answers = refill_told S c.args.cabinet f last here c.due-due.result due can sound c.args.buffers.now.spread.now (omega arith) w c.from-whole.ensures more
           c.length_of_package.result (take (k - 0) c.in-Ok-collect.positions) (take (k * w - 0) out) bytes ps rs c.rewrite.result c.is_ok.result c.is_ok.ensures.value c.rewrite.ensures.answers;
-      becomes = refill_left S c.args.cabinet f c.args.short last here c.due-due.result due can sound c.args.records.now c.args.spread.now c.requires.long w c.from-whole.ensures more
+      becomes = refill_left S c.args.cabinet f last here c.due-due.result due can sound c.args.buffers.now.spread.now (omega arith) w c.from-whole.ensures more
           c.length_of_package.result (take (k - 0) c.in-Ok-collect.positions) (take (k * w - 0) out) bytes ps rs c.rewrite.result c.is_ok.result c.is_ok.ensures.value
           (g.R.ReadRow.model c.rewrite.new.row) c.rewrite.ensures.becomes;
     }

@@ -1,4 +1,4 @@
-use Rattle.std.proofs.Common.{◌≡◌, ◌-◌, ◌*◌, ◌≤◌, length, take, sym, ap, ◌∙◌, arith, rules}
+use Rattle.std.proofs.Common.{◌≡◌, false, is_none, ◌-◌, ◌*◌, ◌≤◌, length, take, sym, ap, ◌∙◌, arith, rules}
 use Rattle.aont.specs.Package.{package_length}
 use Rattle.site.specs.Model.{due_for, needed, positions, records, whole}
 use Rattle.site.specs.Whole.{model_of}
@@ -18,7 +18,7 @@ slice_bounds-rewrite_lacking-end-2 g c =
     let end : c.needed-k.result * c.from.result ≤ length c.collect.new.out = omega (
       arith,
       all,
-      within S f (g.R.ReadRow.sound c.args.self.now.row) (omega (arith, c.args.self.now.plan.fits)) more c.args.records.now c.collect.new.out got.records got.long,
+      within S f (g.R.ReadRow.sound c.args.self.now.row) (omega (arith, c.args.self.now.plan.fits)) more _ c.collect.new.out got.records,
     ) in
     search rules
 
@@ -39,10 +39,11 @@ returns g c =
     let all : k * c.from.result ≡ needed S * whole S f = ap (λ q. q * c.from.result) c.needed-k.ensures ∙ ap (λ w. needed S * w) (c.from.ensures ∙ ap (λ h. h.whole) due) in
     let size : k * c.from.result - 0 ≡ needed S * whole S f = omega (arith, all) in
     let rs : take (k * c.from.result - 0) out ≡ records S f =
-    collected S f (g.R.ReadRow.sound c.args.self.now.row) (omega (arith, c.args.self.now.plan.fits)) more c.args.records.now out got.records got.long (k * c.from.result - 0) size in
+    collected S f (g.R.ReadRow.sound c.args.self.now.row) (omega (arith, c.args.self.now.plan.fits)) more _ out got.records (k * c.from.result - 0) size in
+    let there : is_none c.args.buffers ≡ false = search rules in
     record {
-      answers = repair_told S f last here more c.args.short c.if-short.false c.length_of_package.result (take (k - 0) c.in_ok-positions.positions) (take (k * c.from.result - 0) out)
+      answers = repair_told S f last here more (is_none c.args.buffers) there c.length_of_package.result (take (k - 0) c.in_ok-positions.positions) (take (k * c.from.result - 0) out)
           c.due-due.result bytes ps rs due c.rewrite_lacking.result (g.R.ReadRow.model c.rewrite_lacking.new.row) c.rewrite_lacking.ensures.answers;
-      becomes = repair_left S f last here more c.args.short c.if-short.false c.length_of_package.result (take (k - 0) c.in_ok-positions.positions) (take (k * c.from.result - 0) out)
+      becomes = repair_left S f last here more (is_none c.args.buffers) there c.length_of_package.result (take (k - 0) c.in_ok-positions.positions) (take (k * c.from.result - 0) out)
           c.due-due.result bytes ps rs due c.rewrite_lacking.result (g.R.ReadRow.model c.rewrite_lacking.new.row) c.rewrite_lacking.ensures.becomes;
     }

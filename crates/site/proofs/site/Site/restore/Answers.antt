@@ -12,8 +12,6 @@ slice_bounds-open-end-2 g c =
       arith,
       records-within S (g.R.ReadRow.sound c.args.self.now.row) g.met.F.Field.widths c.args.self.now.plan.fits c.args.file told.answers c.args.last c.requires.same
           c.due.result c.due.ensures c.needed-k.result c.from-whole.result c.length_of_package-bytes.result c.needed-k.ensures c.from-whole.ensures c.length_of_package-bytes.ensures,
-      told.long,
-      c.requires.room,
     ) in
     search rules
 
@@ -21,12 +19,11 @@ pub slice_bounds-open-end-3 : goal.slice_bounds-open-end-3
 slice_bounds-open-end-3 g c =
     let S = model_of g.R.ReadRow g.F.Field g.C.Cipher c.args.self.now in
     let told = c.in_ok-positions.ensures in
-    let end : c.length_of_package-bytes.result ≤ length c.args.sealed.now =
+    let end : c.length_of_package-bytes.result ≤ length c.args.buffers.now.sealed.now =
     omega (
       arith,
       package-within S (g.R.ReadRow.sound c.args.self.now.row) g.met.F.Field.widths c.args.self.now.plan.fits c.args.file told.answers c.args.last c.requires.same
           c.due.result c.due.ensures c.needed-k.result c.from-whole.result c.length_of_package-bytes.result c.needed-k.ensures c.from-whole.ensures c.length_of_package-bytes.ensures,
-      c.requires.room,
     ) in
     search rules
 
@@ -36,6 +33,6 @@ returns g c =
     let told = c.in_ok-positions.ensures in
     let done = restored S (g.R.ReadRow.sound c.args.self.now.row) g.met.F.Field.widths c.args.self.now.plan.fits c.args.file told.answers c.args.last c.requires.same
     c.due.result c.due.ensures c.needed-k.result c.from-whole.result c.length_of_package-bytes.result c.needed-k.ensures c.from-whole.ensures c.length_of_package-bytes.ensures
-    c.in_ok-positions.positions c.collect.new.out c.args.records.now c.args.sealed.now c.args.opened.now c.open.new.opened (drop 4092 c.args.opened.now) c.open.result
-    told.positions told.records c.requires.room.0 c.requires.room.1.1 c.open.ensures.answers c.open.ensures.opens in
+    c.in_ok-positions.positions c.collect.new.out c.args.buffers.now.records.now c.args.buffers.now.sealed.now c.args.buffers.now.opened.now c.open.new.opened (drop 4092 c.args.buffers.now.opened.now) c.open.result
+    told.positions told.records (omega arith) (omega arith) c.open.ensures.answers c.open.ensures.opens in
     record { answers = done.0; restores = done.1 }
