@@ -10,7 +10,7 @@ use Rattle.recovery.specs.Formula.{rebuilt}
 use Rattle.rows.specs.Model.{RowModel, Slot, Sound, Held, with_slot}
 use Rattle.rows.proofs.Laws.{same_model}
 use Rattle.standing.specs.Sets.{set_of}
-use Rattle.standing.proofs.Members.{set_below, set_next, set_none}
+use Rattle.standing.proofs.Members.{set_next, set_none}
 use Rattle.site.specs.declared.fault.SiteCause.{SiteCause}
 use Rattle.site.specs.declared.fault.SiteCause.TheVariants.{Slice}
 use Rattle.site.specs.declared.files.Kept.{Kept}
@@ -73,9 +73,6 @@ module _ (S : SiteModel) (c : ℕ) (short : Bool) where
   pub refilling_none : Refilling 0 0 S
   refilling_none = record { set = sym (set_none (served S c short)); site = ap (with_row S) (upto_none S.row c (served S c short) new) }
 
-  pub refilling_below : (f written : ℕ) (now : SiteModel) → Refilling f written now → written < 2 ^ f
-  refilling_below f written now r = set_below (served S c short) f written r.set
-
   pub refilling_done : (f written : ℕ) (now : SiteModel) → f ≡ 8 → Refilling f written now → Refilling 8 written now
   refilling_done f written now e r = subst (λ n. Refilling n written now) e r
 
@@ -96,12 +93,12 @@ module _ (S : SiteModel) (c : ℕ) (short : Bool) where
     rebuilt_still : rebuilt_record (with_row S now_row) f c ≡ rebuilt_record S f c
     rebuilt_still = ap (λ s. rebuilt_record (alone s) f c) own
 
-    pub refilling_next : (written next : ℕ) (now last : SiteModel) (b : Bool) → Refilling f written now → b ≡ served now c short f →
-        last ≡ with_row now (cond b (with_slot now.row c f (Held (rebuilt_record now f c))) now.row) → next ≡ written + cond b (2 ^ f) 0 → Refilling (f + 1) next last
-    refilling_next written next now last b r eb el en =
+    pub refilling_next : (written next : ℕ) (now last : SiteModel) (b : Bool) → f < 16 → Refilling f written now → b ≡ served now c short f →
+        last ≡ with_row now (cond b (with_slot now.row c f (Held (rebuilt_record now f c))) now.row) → (f < 16 → written < 2 ^ f → next ≡ written + cond b (2 ^ f) 0) → Refilling (f + 1) next last
+    refilling_next written next now last b few r eb el en =
         let is : b ≡ served S c short f = eb ∙ ap (λ T. served T c short f) r.site ∙ served_still in
         record {
-          set = set_next (served S c short) f written next b r.set is en;
+          set = set_next (served S c short) f written next b few r.set is en;
           site = el ∙ ap (λ T. with_row T (cond b (with_slot T.row c f (Held (rebuilt_record T f c))) T.row)) r.site
               ∙ ap (λ bs. with_row S (cond b (with_slot now_row c f (Held bs)) now_row)) rebuilt_still ∙ ap (with_row S) (upto_more S.row c (served S c short) new f b is);
         }

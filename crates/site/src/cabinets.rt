@@ -19,9 +19,7 @@ impl<R: Row, C: Cipher, F: Field> Site<R, C, F> {
         ensures answers { result ≡ cabinet_call (model_of R.ReadRow F.Field C.Cipher self.old) cabinet }
         ensures becomes { model_of R.ReadRow F.Field C.Cipher self.new ≡ leaves result (model_of R.ReadRow F.Field C.Cipher self.old) (reach_after (model_of R.ReadRow F.Field C.Cipher self.old) cabinet false) }
     {
-        if cabinet >= self.plan.fitted() {
-            return Err(SiteCause::NoCabinet);
-        }
+        self.check_cabinet(cabinet)?;
         self.row.pull(cabinet)?;
         Ok(())
     }
@@ -38,9 +36,7 @@ impl<R: Row, C: Cipher, F: Field> Site<R, C, F> {
         ensures answers { result ≡ cabinet_call (model_of R.ReadRow F.Field C.Cipher self.old) cabinet }
         ensures becomes { model_of R.ReadRow F.Field C.Cipher self.new ≡ leaves result (model_of R.ReadRow F.Field C.Cipher self.old) (reach_after (model_of R.ReadRow F.Field C.Cipher self.old) cabinet true) }
     {
-        if cabinet >= self.plan.fitted() {
-            return Err(SiteCause::NoCabinet);
-        }
+        self.check_cabinet(cabinet)?;
         self.row.plug(cabinet)?;
         Ok(())
     }
@@ -57,9 +53,7 @@ impl<R: Row, C: Cipher, F: Field> Site<R, C, F> {
         ensures answers { result ≡ slot_call (model_of R.ReadRow F.Field C.Cipher self.old) cabinet file }
         ensures becomes { model_of R.ReadRow F.Field C.Cipher self.new ≡ leaves result (model_of R.ReadRow F.Field C.Cipher self.old) (slot_after (model_of R.ReadRow F.Field C.Cipher self.old) cabinet file Empty) }
     {
-        if cabinet >= self.plan.fitted() {
-            return Err(SiteCause::NoCabinet);
-        }
+        self.check_cabinet(cabinet)?;
         if file >= 8 {
             return Err(SiteCause::NoFile);
         }
@@ -80,9 +74,7 @@ impl<R: Row, C: Cipher, F: Field> Site<R, C, F> {
         ensures answers { result ≡ slot_call (model_of R.ReadRow F.Field C.Cipher self.old) cabinet file }
         ensures becomes { model_of R.ReadRow F.Field C.Cipher self.new ≡ leaves result (model_of R.ReadRow F.Field C.Cipher self.old) (slot_after (model_of R.ReadRow F.Field C.Cipher self.old) cabinet file Condemned) }
     {
-        if cabinet >= self.plan.fitted() {
-            return Err(SiteCause::NoCabinet);
-        }
+        self.check_cabinet(cabinet)?;
         if file >= 8 {
             return Err(SiteCause::NoFile);
         }
@@ -106,9 +98,7 @@ impl<R: Row, C: Cipher, F: Field> Site<R, C, F> {
         ensures answers { result ≡ swap_answer (model_of R.ReadRow F.Field C.Cipher self.old) cabinet }
         ensures becomes { model_of R.ReadRow F.Field C.Cipher self.new ≡ leaves result (model_of R.ReadRow F.Field C.Cipher self.old) (swap_after (model_of R.ReadRow F.Field C.Cipher self.old) cabinet) }
     {
-        if cabinet >= self.plan.fitted() {
-            return Err(SiteCause::NoCabinet);
-        }
+        self.check_cabinet(cabinet)?;
         self.row.swap(cabinet)?;
         self.marks[cabinet] = true;
         Ok(Order::for_cabinet(cabinet))
@@ -126,9 +116,7 @@ impl<R: Row, C: Cipher, F: Field> Site<R, C, F> {
     fn resume_marked(&self, cabinet: usize) -> Result<Order, SiteCause>
         ensures { result ≡ resume_answer (model_of R.ReadRow F.Field C.Cipher self.now) cabinet }
     {
-        if cabinet >= self.plan.fitted() {
-            return Err(SiteCause::NoCabinet);
-        }
+        self.check_cabinet(cabinet)?;
         if !self.marks[cabinet] {
             return Err(SiteCause::MarkClosed);
         }

@@ -1,7 +1,7 @@
 // What the calls look at first.
 ghost use Rattle.std.specs.Prelude.{◌≡◌, Ok};
 ghost use Rattle.site.specs.Model.{due_for, kept};
-ghost use Rattle.site.specs.Calls.{of_current};
+ghost use Rattle.site.specs.Calls.{of_current, of_fitted};
 ghost use Rattle.site.specs.Whole.{fitting_of, model_of};
 
 use crate::fault::SiteCause;
@@ -14,6 +14,17 @@ use erasure::{Head, record_length};
 use rows::row::Row;
 
 impl<R: Row, C: Cipher, F: Field> Site<R, C, F> {
+    // Refuses a cabinet that is not fitted.
+    pub(crate) fn check_cabinet(&self, cabinet: usize) -> Result<(), SiteCause>
+        ensures { result ≡ of_fitted (model_of R.ReadRow F.Field C.Cipher self.now) cabinet (Ok tt) }
+    {
+        if cabinet < self.plan.fitted() {
+            Ok(())
+        } else {
+            Err(SiteCause::NoCabinet)
+        }
+    }
+
     // What is kept of a file that can be got.
     pub(crate) fn current(&self, file: usize) -> Result<Kept, SiteCause>
         ensures { result ≡ of_current (model_of R.ReadRow F.Field C.Cipher self.now) file (Ok (kept (model_of R.ReadRow F.Field C.Cipher self.now) file)) }

@@ -78,7 +78,7 @@ impl<R: Row, C: Cipher, F: Field> Site<R, C, F> {
         ensures answers { result ≡ restored_answer (model_of R.ReadRow F.Field C.Cipher self.now) file }
         ensures restores { IfOk result (λ n. (n ≡ length (got_file (model_of R.ReadRow F.Field C.Cipher self.now) file)) × (take n buffers.new.opened.now ≡ got_file (model_of R.ReadRow F.Field C.Cipher self.now) file)) }
     {
-        let positions = self.collect(file, last, buffers.records)?;
+        let lowest = self.collect(file, last, buffers.records)?;
         let k = self.plan.needed();
         let whole = usize::from(self.due(last).whole);
         let bytes = length_of_package(last.size);
@@ -87,7 +87,7 @@ impl<R: Row, C: Cipher, F: Field> Site<R, C, F> {
         let opened = &mut *buffers.opened;
         open::<C, F>(
             &self.plan,
-            &positions[0..k],
+            lowest.positions(),
             &records[0..k * whole],
             last.size,
             &mut sealed[0..bytes],

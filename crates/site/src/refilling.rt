@@ -18,15 +18,7 @@ use cipher::Cipher;
 use erasure::Head;
 use memory::{Buffers, Work, wipe_all};
 use rows::row::Row;
-use standing::cause_at;
-
-// A set of files below this one, with this one too or without it.
-fn with_file(set: u16, file: usize, is_in: bool) -> u16
-    requires { (file < 8) × (set < 2 ^ file) }
-    ensures { result ≡ set + (if is_in then 2 ^ file else 0) }
-{
-    if is_in { set + (1 << file) } else { set }
-}
+use standing::{cause_at, with_member};
 
 impl<R: Row, C: Cipher, F: Field> Site<R, C, F> {
     // Whether a record can be written for a cabinet: it is fitted and lacks the one that is due.
@@ -49,7 +41,7 @@ impl<R: Row, C: Cipher, F: Field> Site<R, C, F> {
         if !self.takes(cabinet, file, due) {
             return false;
         }
-        let Ok(positions) = self.collect(file, last, buffers.records) else {
+        let Ok(lowest) = self.collect(file, last, buffers.records) else {
             return false;
         };
         let plan = self.plan;
@@ -61,7 +53,7 @@ impl<R: Row, C: Cipher, F: Field> Site<R, C, F> {
             &mut self.row,
             &plan,
             length_of_package(last.size),
-            &positions[0..k],
+            lowest.positions(),
             &records[0..k * whole],
             cabinet,
             file,
@@ -87,7 +79,7 @@ impl<R: Row, C: Cipher, F: Field> Site<R, C, F> {
     {
         let mut left = 0;
         for file in 0..8usize {
-            left = with_file(left, file, self.is_left(cabinet, file));
+            left = with_member(left, file, self.is_left(cabinet, file));
         }
         left
     }
@@ -103,7 +95,7 @@ impl<R: Row, C: Cipher, F: Field> Site<R, C, F> {
         let mut written = 0;
         for file in 0..8usize {
             let is_written = self.refill_file(cabinet, file, buffers);
-            written = with_file(written, file, is_written);
+            written = with_member(written, file, is_written);
         }
         written
     }

@@ -104,7 +104,7 @@ impl<R: Row, C: Cipher, F: Field> Site<R, C, F> {
     {
         let last = self.current(file)?;
         let buffers = buffers.as_mut().ok_or(SiteCause::MemoryShort)?;
-        let positions = self.collect(file, last, buffers.records)?;
+        let lowest = self.collect(file, last, buffers.records)?;
         let due = self.due(last);
         let plan = self.plan;
         let k = plan.needed();
@@ -112,7 +112,7 @@ impl<R: Row, C: Cipher, F: Field> Site<R, C, F> {
             &mut self.row,
             &plan,
             length_of_package(last.size),
-            &positions[0..k],
+            lowest.positions(),
             &buffers.records[0..k * usize::from(due.whole)],
             file,
             due,

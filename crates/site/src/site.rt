@@ -32,14 +32,11 @@ pub(crate) fn told<T>(
 ) -> Result<T, SiteFault>
     ensures { result ≡ named cabinet file answer }
 {
-    match answer {
-        Ok(x) => Ok(x),
-        Err(cause) => Err(SiteFault {
-            cause,
-            cabinet,
-            file,
-        }),
-    }
+    answer.map_err(|cause| SiteFault {
+        cause,
+        cabinet,
+        file,
+    })
 }
 
 // Puts an empty cabinet in the place of each of the first n that the row has.
