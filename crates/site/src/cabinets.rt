@@ -53,10 +53,7 @@ impl<R: Row, C: Cipher, F: Field> Site<R, C, F> {
         ensures answers { result ≡ slot_call (model_of R.ReadRow F.Field C.Cipher self.old) cabinet file }
         ensures becomes { model_of R.ReadRow F.Field C.Cipher self.new ≡ leaves result (model_of R.ReadRow F.Field C.Cipher self.old) (slot_after (model_of R.ReadRow F.Field C.Cipher self.old) cabinet file Empty) }
     {
-        self.check_cabinet(cabinet)?;
-        if file >= 8 {
-            return Err(SiteCause::NoFile);
-        }
+        self.check_slot(cabinet, file)?;
         self.row.clear(cabinet, file)?;
         Ok(())
     }
@@ -74,10 +71,7 @@ impl<R: Row, C: Cipher, F: Field> Site<R, C, F> {
         ensures answers { result ≡ slot_call (model_of R.ReadRow F.Field C.Cipher self.old) cabinet file }
         ensures becomes { model_of R.ReadRow F.Field C.Cipher self.new ≡ leaves result (model_of R.ReadRow F.Field C.Cipher self.old) (slot_after (model_of R.ReadRow F.Field C.Cipher self.old) cabinet file Condemned) }
     {
-        self.check_cabinet(cabinet)?;
-        if file >= 8 {
-            return Err(SiteCause::NoFile);
-        }
+        self.check_slot(cabinet, file)?;
         self.row.condemn(cabinet, file)?;
         Ok(())
     }

@@ -4,14 +4,13 @@ ghost use Rattle.base.specs.Answers.{leaves};
 ghost use Rattle.base.specs.Bytes.{over};
 ghost use Rattle.memory.specs.Lent.{Wiped, is_short};
 ghost use Rattle.aont.specs.Seals.{unseal_answer, unsealed};
-ghost use Rattle.erasure.specs.Records.{coding};
 ghost use Rattle.recovery.specs.Answers.{join_answer};
 ghost use Rattle.recovery.specs.Formula.{package_from};
 ghost use Rattle.site.specs.Model.{kept};
 ghost use Rattle.site.specs.Calls.{get_answer, got_file};
 ghost use Rattle.site.specs.Faults.{named};
 ghost use Rattle.site.specs.Steps.{opened_answer, restored_answer, sized_answer};
-ghost use Rattle.site.specs.Whole.{model_of};
+ghost use Rattle.site.specs.Whole.{coding_of, model_of};
 
 use crate::fault::{SiteCause, SiteFault};
 use crate::files::Kept;
@@ -31,8 +30,8 @@ fn join_over<F: Field>(
     records: &[u8],
     sealed: &mut [u8],
 ) -> Result<usize, SliceFault>
-    ensures answers { result ≡ join_answer (coding F.ops F.width F.stored F.number plan.now.k) plan.now.n (length sealed.old) positions.now records.now (length sealed.old) }
-    ensures fills { OnOk result (sealed.new ≡ package_from (coding F.ops F.width F.stored F.number plan.now.k) (length sealed.old) positions.now records.now) }
+    ensures answers { result ≡ join_answer (coding_of F.Field plan.now) plan.now.n (length sealed.old) positions.now records.now (length sealed.old) }
+    ensures fills { OnOk result (sealed.new ≡ package_from (coding_of F.Field plan.now) (length sealed.old) positions.now records.now) }
 {
     join::<F>(plan, sealed.len(), positions, records, sealed)
 }
@@ -58,8 +57,8 @@ fn open<C: Cipher, F: Field>(
     sealed: &mut [u8],
     opened: &mut [u8],
 ) -> Result<usize, SiteCause>
-    ensures answers { result ≡ opened_answer (coding F.Field.ops F.Field.width F.Field.stored F.Field.number plan.now.k) plan.now.n C.Cipher.encrypted C.Cipher.number (length sealed.old) positions.now records.now (length opened.old) size }
-    ensures opens { OnOk result (opened.new ≡ over (unsealed C.Cipher.encrypted C.Cipher.number (package_from (coding F.Field.ops F.Field.width F.Field.stored F.Field.number plan.now.k) (length sealed.old) positions.now records.now)) opened.old) }
+    ensures answers { result ≡ opened_answer (coding_of F.Field plan.now) plan.now.n C.Cipher.encrypted C.Cipher.number (length sealed.old) positions.now records.now (length opened.old) size }
+    ensures opens { OnOk result (opened.new ≡ over (unsealed C.Cipher.encrypted C.Cipher.number (package_from (coding_of F.Field plan.now) (length sealed.old) positions.now records.now)) opened.old) }
 {
     join_over::<F>(plan, positions, records, sealed)?;
     unseal_sized::<C>(sealed, size, opened)

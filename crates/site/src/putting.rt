@@ -6,15 +6,16 @@ ghost use Rattle.base.specs.Sizes.{misfit};
 ghost use Rattle.memory.specs.Lent.{Wiped, is_short};
 ghost use Rattle.aont.specs.Package.{package_length, sealed};
 ghost use Rattle.aont.specs.Seals.{seal_answer};
-ghost use Rattle.erasure.specs.Records.{coding, record_length};
+ghost use Rattle.erasure.specs.Records.{record_length};
 ghost use Rattle.erasure.specs.Formula.{record_from, record_of};
 ghost use Rattle.rows.specs.Model.{Held, with_slot};
 ghost use Rattle.site.specs.Calls.{put_after, put_answer};
 ghost use Rattle.site.specs.Faults.{named};
 ghost use Rattle.site.specs.Model.{code, with_slots};
 ghost use Rattle.site.specs.Steps.{put_reached, put_sized};
-ghost use Rattle.site.specs.Whole.{model_of};
+ghost use Rattle.site.specs.Whole.{coding_of, model_of};
 
+use crate::checks::check_file;
 use crate::fault::{SiteCause, SiteFault};
 use crate::files::Kept;
 use crate::site::{Site, told};
@@ -50,8 +51,8 @@ fn write_at<R: Row, F: Field>(
     requires there { file < 8 }
     requires issued { 1 ≤ issue }
     requires fits { misfit size ≡ false }
-    requires room { record_length (coding F.ops F.width F.stored F.number plan.now.k) size ≤ (R.ReadRow.model row.old).room }
-    ensures { R.ReadRow.model row.new ≡ with_slot (R.ReadRow.model row.old) cabinet file (Held (record_from (coding F.ops F.width F.stored F.number plan.now.k) size slices.now cabinet issue)) }
+    requires room { record_length (coding_of F.Field plan.now) size ≤ (R.ReadRow.model row.old).room }
+    ensures { R.ReadRow.model row.new ≡ with_slot (R.ReadRow.model row.old) cabinet file (Held (record_from (coding_of F.Field plan.now) size slices.now cabinet issue)) }
 {
     if let Ok(whole) = cut_spread::<F>(plan, size, slices, cabinet, issue, out) {
         let _ = row.write(cabinet, file, &out[0..whole]);
@@ -71,8 +72,8 @@ fn write_all<R: Row, F: Field>(
     requires there { file < 8 }
     requires issued { 1 ≤ issue }
     requires fits { misfit size ≡ false }
-    requires room { record_length (coding F.ops F.width F.stored F.number plan.now.k) size ≤ (R.ReadRow.model row.old).room }
-    ensures { R.ReadRow.model row.new ≡ with_slots (R.ReadRow.model row.old) (λ c. nat_lt c plan.now.n && (R.ReadRow.model row.old).reach c) file (λ c. Held (record_from (coding F.ops F.width F.stored F.number plan.now.k) size slices.now c issue)) }
+    requires room { record_length (coding_of F.Field plan.now) size ≤ (R.ReadRow.model row.old).room }
+    ensures { R.ReadRow.model row.new ≡ with_slots (R.ReadRow.model row.old) (λ c. nat_lt c plan.now.n && (R.ReadRow.model row.old).reach c) file (λ c. Held (record_from (coding_of F.Field plan.now) size slices.now c issue)) }
 {
     for c in 0..plan.fitted() {
         if in_reach(row, c) {
@@ -102,7 +103,7 @@ fn seal_and_spread<C: Cipher, F: Field>(
 )
     requires few { length bytes.now ≤ 4092 }
     requires wide { length key.now ≡ 16 }
-    ensures { (c issue : _) → record_from (coding F.Field.ops F.Field.width F.Field.stored F.Field.number plan.now.k) (package_length (length bytes.now)) slices.new c issue ≡ record_of (coding F.Field.ops F.Field.width F.Field.stored F.Field.number plan.now.k) (sealed C.Cipher.encrypted C.Cipher.number key.now bytes.now) c issue }
+    ensures { (c issue : _) → record_from (coding_of F.Field plan.now) (package_length (length bytes.now)) slices.new c issue ≡ record_of (coding_of F.Field plan.now) (sealed C.Cipher.encrypted C.Cipher.number key.now bytes.now) c issue }
 {
     let size = length_of_package(bytes.len() as u16);
     seal_file::<C>(key, bytes, package);
@@ -132,9 +133,7 @@ impl<R: Row, C: Cipher, F: Field> Site<R, C, F> {
         ensures answers { result ≡ put_sized (model_of R.ReadRow F.Field C.Cipher self.now) file issue (length key.now) (length bytes.now) }
         ensures fits { IfOk result (λ size. misfit size ≡ false) }
     {
-        if file >= 8 {
-            return Err(SiteCause::NoFile);
-        }
+        check_file(file)?;
         let last = self.files[file].last;
         if issue <= last {
             return Err(SiteCause::IssueOld(last));

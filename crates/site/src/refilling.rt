@@ -10,7 +10,7 @@ ghost use Rattle.site.specs.Steps.{lacks};
 ghost use Rattle.site.specs.Whole.{model_of};
 
 use crate::orders::{Order, Refilled};
-use crate::repairing::{lacks, rewrite};
+use crate::repairing::{Source, lacks, rewrite};
 use crate::site::Site;
 use algebra::Field;
 use aont::length_of_package;
@@ -49,17 +49,13 @@ impl<R: Row, C: Cipher, F: Field> Site<R, C, F> {
         let whole = usize::from(due.whole);
         let records = &*buffers.records;
         let spread = &mut *buffers.spread;
-        rewrite::<R, F>(
-            &mut self.row,
-            &plan,
-            length_of_package(last.size),
-            lowest.positions(),
-            &records[0..k * whole],
-            cabinet,
-            file,
-            &mut spread[0..whole],
-        )
-        .is_ok()
+        let source = Source {
+            plan: &plan,
+            bytes: length_of_package(last.size),
+            positions: lowest.positions(),
+            records: &records[0..k * whole],
+        };
+        rewrite::<R, F>(&mut self.row, &source, cabinet, file, &mut spread[0..whole]).is_ok()
     }
 
     // Whether a file is current and the cabinet does not stand for it.

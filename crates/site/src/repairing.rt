@@ -1,7 +1,6 @@
 // Records that cabinets lack, made anew from those of the others.
 ghost use Rattle.std.specs.Prelude.{◌≡◌, ◌<◌, ◌≤◌, true, ◌&&◌, length, Some, None, Ok, is_none, nat_lt};
 ghost use Rattle.base.specs.Answers.{leaves, pass};
-ghost use Rattle.erasure.specs.Records.{coding};
 ghost use Rattle.recovery.specs.Answers.{rebuild_answer};
 ghost use Rattle.recovery.specs.Formula.{rebuilt};
 ghost use Rattle.rows.specs.Model.{Held, with_slot};
@@ -12,7 +11,7 @@ ghost use Rattle.site.specs.Calls.{repair_after, repair_answer};
 ghost use Rattle.site.specs.Faults.{named};
 ghost use Rattle.site.specs.Model.{record_bytes, with_slots};
 ghost use Rattle.site.specs.Steps.{lacks, rebuild_for, rewrites};
-ghost use Rattle.site.specs.Whole.{model_of};
+ghost use Rattle.site.specs.Whole.{coding_of, model_of};
 
 use crate::fault::{SiteCause, SiteFault};
 use crate::site::{Site, told};
@@ -34,25 +33,38 @@ pub(crate) fn lacks<R: ReadRow>(row: &R, cabinet: usize, file: usize, due: Head)
         && usize::from(due.whole) <= row.room()
 }
 
-// Rebuilds a cabinet's record of so many bytes from those of others, and writes it to the cabinet. Refuses as `rebuild` does.
+// What a record is rebuilt from: the records of k cabinets, end to end, and the bytes of their package.
+#[derive(Clone, Copy)]
+pub(crate) struct Source<'a> {
+    pub(crate) plan: &'a Plan,
+    pub(crate) bytes: usize,
+    pub(crate) positions: &'a [u8],
+    pub(crate) records: &'a [u8],
+}
+
+// Rebuilds a cabinet's record from those of others, and writes it to the cabinet. Refuses as `rebuild` does.
 pub(crate) fn rewrite<R: Row, F: Field>(
     row: &mut R,
-    plan: &Plan,
-    bytes: usize,
-    positions: &[u8],
-    records: &[u8],
+    source: &Source<'_>,
     cabinet: usize,
     file: usize,
     out: &mut [u8],
 ) -> Result<(), SiteCause>
     requires there { file < 8 }
     requires near { (R.ReadRow.model row.old).reach cabinet ≡ true }
-    requires due { length out.old ≡ record_bytes (coding F.Field.ops F.Field.width F.Field.stored F.Field.number plan.now.k) bytes }
+    requires due { length out.old ≡ record_bytes (coding_of F.Field source.now.plan.now) source.now.bytes }
     requires room { length out.old ≤ (R.ReadRow.model row.old).room }
-    ensures answers { result ≡ pass Slice (rebuild_answer (coding F.Field.ops F.Field.width F.Field.stored F.Field.number plan.now.k) plan.now.n bytes positions.now records.now cabinet (length out.old)) (λ _. Ok tt) }
-    ensures becomes { R.ReadRow.model row.new ≡ leaves result (R.ReadRow.model row.old) (with_slot (R.ReadRow.model row.old) cabinet file (Held (rebuilt (coding F.Field.ops F.Field.width F.Field.stored F.Field.number plan.now.k) bytes positions.now records.now cabinet))) }
+    ensures answers { result ≡ pass Slice (rebuild_answer (coding_of F.Field source.now.plan.now) source.now.plan.now.n source.now.bytes source.now.positions.now source.now.records.now cabinet (length out.old)) (λ _. Ok tt) }
+    ensures becomes { R.ReadRow.model row.new ≡ leaves result (R.ReadRow.model row.old) (with_slot (R.ReadRow.model row.old) cabinet file (Held (rebuilt (coding_of F.Field source.now.plan.now) source.now.bytes source.now.positions.now source.now.records.now cabinet))) }
 {
-    rebuild::<F>(plan, bytes, positions, records, cabinet, out)?;
+    rebuild::<F>(
+        source.plan,
+        source.bytes,
+        source.positions,
+        source.records,
+        cabinet,
+        out,
+    )?;
     let _ = row.write(cabinet, file, out);
     Ok(())
 }
@@ -60,33 +72,21 @@ pub(crate) fn rewrite<R: Row, F: Field>(
 // Rewrites the record of each fitted cabinet that lacks it, and answers how many these were. Refuses at the first, or not at all.
 fn rewrite_lacking<R: Row, F: Field>(
     row: &mut R,
-    plan: &Plan,
-    bytes: usize,
-    positions: &[u8],
-    records: &[u8],
+    source: &Source<'_>,
     file: usize,
     due: Head,
     spread: &mut [u8; LEAST],
 ) -> Result<usize, SiteCause>
     requires there { file < 8 }
-    requires due { due.whole ≡ record_bytes (coding F.Field.ops F.Field.width F.Field.stored F.Field.number plan.now.k) bytes }
-    ensures answers { result ≡ rewrites (rebuild_for (coding F.Field.ops F.Field.width F.Field.stored F.Field.number plan.now.k) plan.now.n bytes positions.now records.now due.whole) (members (lacks (R.ReadRow.model row.old) due file) plan.now.n) }
-    ensures becomes { R.ReadRow.model row.new ≡ leaves result (R.ReadRow.model row.old) (with_slots (R.ReadRow.model row.old) (λ c. nat_lt c plan.now.n && lacks (R.ReadRow.model row.old) due file c) file (λ c. Held (rebuilt (coding F.Field.ops F.Field.width F.Field.stored F.Field.number plan.now.k) bytes positions.now records.now c))) }
+    requires due { due.whole ≡ record_bytes (coding_of F.Field source.now.plan.now) source.now.bytes }
+    ensures answers { result ≡ rewrites (rebuild_for (coding_of F.Field source.now.plan.now) source.now.plan.now.n source.now.bytes source.now.positions.now source.now.records.now due.whole) (members (lacks (R.ReadRow.model row.old) due file) source.now.plan.now.n) }
+    ensures becomes { R.ReadRow.model row.new ≡ leaves result (R.ReadRow.model row.old) (with_slots (R.ReadRow.model row.old) (λ c. nat_lt c source.now.plan.now.n && lacks (R.ReadRow.model row.old) due file c) file (λ c. Held (rebuilt (coding_of F.Field source.now.plan.now) source.now.bytes source.now.positions.now source.now.records.now c))) }
 {
     let whole = usize::from(due.whole);
     let mut count = 0;
-    for c in 0..plan.fitted() {
+    for c in 0..source.plan.fitted() {
         if lacks(row, c, file, due) {
-            rewrite::<R, F>(
-                row,
-                plan,
-                bytes,
-                positions,
-                records,
-                c,
-                file,
-                &mut spread[0..whole],
-            )?;
+            rewrite::<R, F>(row, source, c, file, &mut spread[0..whole])?;
             count += 1;
         }
     }
@@ -108,16 +108,13 @@ impl<R: Row, C: Cipher, F: Field> Site<R, C, F> {
         let due = self.due(last);
         let plan = self.plan;
         let k = plan.needed();
-        rewrite_lacking::<R, F>(
-            &mut self.row,
-            &plan,
-            length_of_package(last.size),
-            lowest.positions(),
-            &buffers.records[0..k * usize::from(due.whole)],
-            file,
-            due,
-            buffers.spread,
-        )
+        let source = Source {
+            plan: &plan,
+            bytes: length_of_package(last.size),
+            positions: lowest.positions(),
+            records: &buffers.records[0..k * usize::from(due.whole)],
+        };
+        rewrite_lacking::<R, F>(&mut self.row, &source, file, due, buffers.spread)
     }
 
     // Rebuilds the records of a file that cabinets in reach lack, each from those of the k lowest cabinets that stand, and answers

@@ -6,8 +6,8 @@ use Rattle.site.proofs.Repairs.{are_enough, collected, is_kept, within}
 use Rattle.site.proofs.Refills.{refill_left, refill_told, spread_end}
 use Rattle.site.proofs.site.Site.refill_file.Goals as goal
 
-pub slice_bounds-rewrite-end : goal.slice_bounds-rewrite-end
-slice_bounds-rewrite-end g c =
+pub slice_bounds-source-end : goal.slice_bounds-source-end
+slice_bounds-source-end g c =
     let S = model_of g.R.ReadRow g.F.Field g.C.Cipher c.args.self.now in
     let f = c.args.file in
     let here = sym c.current.ensures ∙ c.in-Ok.is in
@@ -23,8 +23,8 @@ slice_bounds-rewrite-end g c =
     ) in
     search rules
 
-pub slice_bounds-rewrite-end-2 : goal.slice_bounds-rewrite-end-2
-slice_bounds-rewrite-end-2 g c =
+pub slice_bounds-rewrite-end : goal.slice_bounds-rewrite-end
+slice_bounds-rewrite-end g c =
     let S = model_of g.R.ReadRow g.F.Field g.C.Cipher c.args.self.now in
     let f = c.args.file in
     let last = c.in-Ok.last in

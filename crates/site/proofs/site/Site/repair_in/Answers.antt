@@ -5,8 +5,8 @@ use Rattle.site.specs.Whole.{model_of}
 use Rattle.site.proofs.Repairs.{are_enough, collected, is_kept, repair_left, repair_told, within}
 use Rattle.site.proofs.site.Site.repair_in.Goals as goal
 
-pub slice_bounds-rewrite_lacking-end : goal.slice_bounds-rewrite_lacking-end
-slice_bounds-rewrite_lacking-end g c =
+pub slice_bounds-source-end : goal.slice_bounds-source-end
+slice_bounds-source-end g c =
     let S = model_of g.R.ReadRow g.F.Field g.C.Cipher c.args.self.now in
     let f = c.args.file in
     let here = sym c.current.ensures ∙ c.in_ok-last.was in
