@@ -49,7 +49,7 @@ impl<R: Row, C: Cipher, F: Field> Site<R, C, F> {
 
     // What is kept of a file that can be got.
     pub(crate) fn current(&self, file: usize) -> Result<Kept, SiteCause>
-        ensures { result ≡ of_current (model_of R.ReadRow F.Field C.Cipher self.now) file (Ok (kept (model_of R.ReadRow F.Field C.Cipher self.now) file)) }
+        ensures { let model = model_of R.ReadRow F.Field C.Cipher in result ≡ of_current (model self.now) file (Ok (kept (model self.now) file)) }
     {
         check_file(file)?;
         if !self.files[file].current {

@@ -75,7 +75,7 @@ impl<R: Row, C: Cipher, F: Field> Site<R, C, F> {
         requires there { file < 8 }
         requires same { last ≡ kept (model_of R.ReadRow F.Field C.Cipher self.now) file }
         ensures answers { result ≡ restored_answer (model_of R.ReadRow F.Field C.Cipher self.now) file }
-        ensures restores { IfOk result (λ n. (n ≡ length (got_file (model_of R.ReadRow F.Field C.Cipher self.now) file)) × (take n buffers.new.opened.now ≡ got_file (model_of R.ReadRow F.Field C.Cipher self.now) file)) }
+        ensures restores { let model = model_of R.ReadRow F.Field C.Cipher in IfOk result (λ n. (n ≡ length (got_file (model self.now) file)) × (take n buffers.new.opened.now ≡ got_file (model self.now) file)) }
     {
         let lowest = self.collect(file, last, buffers.records)?;
         let k = self.plan.needed();

@@ -176,7 +176,7 @@ impl<R: Row, C: Cipher, F: Field> Site<R, C, F> {
         requires few { length bytes.now ≤ 4092 }
         requires wide { length key.now ≡ 16 }
         requires room { record_length (code (model_of R.ReadRow F.Field C.Cipher self.old)) (package_length (length bytes.now)) ≤ (R.ReadRow.model self.old.row).room }
-        ensures { model_of R.ReadRow F.Field C.Cipher self.new ≡ put_after (model_of R.ReadRow F.Field C.Cipher self.old) file issue key.now bytes.now }
+        ensures { let model = model_of R.ReadRow F.Field C.Cipher in model self.new ≡ put_after (model self.old) file issue key.now bytes.now }
     {
         let plan = self.plan;
         seal_and_spread::<C, F>(&plan, key, bytes, buffers.sealed, buffers.spread);
@@ -207,7 +207,7 @@ impl<R: Row, C: Cipher, F: Field> Site<R, C, F> {
         mut buffers: Option<Buffers<'_>>,
     ) -> Result<usize, SiteCause>
         ensures answers { result ≡ put_answer (model_of R.ReadRow F.Field C.Cipher self.old) file issue (length key.now) (length bytes.now) (is_none buffers.entry) }
-        ensures becomes { model_of R.ReadRow F.Field C.Cipher self.new ≡ leaves result (model_of R.ReadRow F.Field C.Cipher self.old) (put_after (model_of R.ReadRow F.Field C.Cipher self.old) file issue key.now bytes.now) }
+        ensures becomes { let model = model_of R.ReadRow F.Field C.Cipher in model self.new ≡ leaves result (model self.old) (put_after (model self.old) file issue key.now bytes.now) }
     {
         let size = self.package_to_put(file, issue, key, bytes)?;
         let buffers = buffers.as_mut().ok_or(SiteCause::MemoryShort)?;
@@ -229,7 +229,7 @@ impl<R: Row, C: Cipher, F: Field> Site<R, C, F> {
         work: Work<'_>,
     ) -> Result<usize, SiteFault>
         ensures answers { result ≡ named None (Some file) (put_answer (model_of R.ReadRow F.Field C.Cipher self.old) file issue (length key.now) (length bytes.now) (is_short work.entry)) }
-        ensures becomes { model_of R.ReadRow F.Field C.Cipher self.new ≡ leaves result (model_of R.ReadRow F.Field C.Cipher self.old) (put_after (model_of R.ReadRow F.Field C.Cipher self.old) file issue key.now bytes.now) }
+        ensures becomes { let model = model_of R.ReadRow F.Field C.Cipher in model self.new ≡ leaves result (model self.old) (put_after (model self.old) file issue key.now bytes.now) }
         ensures wiped { Wiped work.entry work.exit }
     {
         let Work {

@@ -32,7 +32,7 @@ impl<R: Row, C: Cipher, F: Field> Site<R, C, F> {
     fn refill_file(&mut self, cabinet: usize, file: usize, buffers: &mut Buffers<'_>) -> bool
         requires { file < 8 }
         ensures answers { result ≡ served (model_of R.ReadRow F.Field C.Cipher self.old) cabinet false file }
-        ensures becomes { model_of R.ReadRow F.Field C.Cipher self.new ≡ with_row (model_of R.ReadRow F.Field C.Cipher self.old) (if result then with_slot (R.ReadRow.model self.old.row) cabinet file (Held (rebuilt_record (model_of R.ReadRow F.Field C.Cipher self.old) file cabinet)) else R.ReadRow.model self.old.row) }
+        ensures becomes { let model = model_of R.ReadRow F.Field C.Cipher in model self.new ≡ with_row (model self.old) (if result then with_slot (R.ReadRow.model self.old.row) cabinet file (Held (rebuilt_record (model self.old) file cabinet)) else R.ReadRow.model self.old.row) }
     {
         let Ok(last) = self.current(file) else {
             return false;
@@ -61,7 +61,7 @@ impl<R: Row, C: Cipher, F: Field> Site<R, C, F> {
     // Whether a file is current and the cabinet does not stand for it.
     fn is_left(&self, cabinet: usize, file: usize) -> bool
         requires { file < 8 }
-        ensures { result ≡ ((kept (model_of R.ReadRow F.Field C.Cipher self.now) file).current && not (nat_lt cabinet self.now.plan.n && standing (model_of R.ReadRow F.Field C.Cipher self.now) file cabinet)) }
+        ensures { let model = model_of R.ReadRow F.Field C.Cipher in result ≡ ((kept (model self.now) file).current && not (nat_lt cabinet self.now.plan.n && standing (model self.now) file cabinet)) }
     {
         let last = self.files[file];
         last.current
@@ -83,7 +83,7 @@ impl<R: Row, C: Cipher, F: Field> Site<R, C, F> {
     // Refills each file in turn, and answers the set of those that were written: none with memory that is too short.
     fn refill_all(&mut self, cabinet: usize, mut buffers: Option<Buffers<'_>>) -> u16
         ensures answers { result ≡ set_of (served (model_of R.ReadRow F.Field C.Cipher self.old) cabinet (is_none buffers.entry)) 8 }
-        ensures becomes { model_of R.ReadRow F.Field C.Cipher self.new ≡ with_row (model_of R.ReadRow F.Field C.Cipher self.old) (refilled_row (model_of R.ReadRow F.Field C.Cipher self.old) cabinet (is_none buffers.entry)) }
+        ensures becomes { let model = model_of R.ReadRow F.Field C.Cipher in model self.new ≡ with_row (model self.old) (refilled_row (model self.old) cabinet (is_none buffers.entry)) }
     {
         let Some(buffers) = buffers.as_mut() else {
             return 0;
@@ -98,7 +98,7 @@ impl<R: Row, C: Cipher, F: Field> Site<R, C, F> {
 
     // Closes a cabinet's mark; one that no site has, has none.
     fn close_mark(&mut self, cabinet: usize)
-        ensures { model_of R.ReadRow F.Field C.Cipher self.new ≡ with_marks (model_of R.ReadRow F.Field C.Cipher self.old) (set self.old.marks cabinet false) (R.ReadRow.model self.old.row) }
+        ensures { let model = model_of R.ReadRow F.Field C.Cipher in model self.new ≡ with_marks (model self.old) (set self.old.marks cabinet false) (R.ReadRow.model self.old.row) }
     {
         if cabinet < 16 {
             self.marks[cabinet] = false;
@@ -107,7 +107,7 @@ impl<R: Row, C: Cipher, F: Field> Site<R, C, F> {
 
     fn refill_in(&mut self, cabinet: usize, buffers: Option<Buffers<'_>>) -> Refilled
         ensures answers { result ≡ refill_answer (model_of R.ReadRow F.Field C.Cipher self.old) cabinet (is_none buffers.entry) }
-        ensures becomes { model_of R.ReadRow F.Field C.Cipher self.new ≡ refill_after (model_of R.ReadRow F.Field C.Cipher self.old) cabinet (is_none buffers.entry) }
+        ensures becomes { let model = model_of R.ReadRow F.Field C.Cipher in model self.new ≡ refill_after (model self.old) cabinet (is_none buffers.entry) }
     {
         let written = self.refill_all(cabinet, buffers);
         let left = self.left(cabinet);
@@ -123,7 +123,7 @@ impl<R: Row, C: Cipher, F: Field> Site<R, C, F> {
     // afterwards.
     pub fn refill(&mut self, order: Order, work: Work<'_>) -> Refilled
         ensures answers { result ≡ refill_answer (model_of R.ReadRow F.Field C.Cipher self.old) order.cabinet (is_short work.entry) }
-        ensures becomes { model_of R.ReadRow F.Field C.Cipher self.new ≡ refill_after (model_of R.ReadRow F.Field C.Cipher self.old) order.cabinet (is_short work.entry) }
+        ensures becomes { let model = model_of R.ReadRow F.Field C.Cipher in model self.new ≡ refill_after (model self.old) order.cabinet (is_short work.entry) }
         ensures wiped { Wiped work.entry work.exit }
     {
         let cabinet = order.spend();

@@ -100,7 +100,7 @@ impl<R: Row, C: Cipher, F: Field> Site<R, C, F> {
         mut buffers: Option<Buffers<'_>>,
     ) -> Result<usize, SiteCause>
         ensures answers { result ≡ repair_answer (model_of R.ReadRow F.Field C.Cipher self.old) file (is_none buffers.entry) }
-        ensures becomes { model_of R.ReadRow F.Field C.Cipher self.new ≡ leaves result (model_of R.ReadRow F.Field C.Cipher self.old) (repair_after (model_of R.ReadRow F.Field C.Cipher self.old) file) }
+        ensures becomes { let model = model_of R.ReadRow F.Field C.Cipher in model self.new ≡ leaves result (model self.old) (repair_after (model self.old) file) }
     {
         let last = self.current(file)?;
         let buffers = buffers.as_mut().ok_or(SiteCause::MemoryShort)?;
@@ -122,7 +122,7 @@ impl<R: Row, C: Cipher, F: Field> Site<R, C, F> {
     // that stand, and records of which one has no code; then nothing is written. The working memory is zero afterwards.
     pub fn repair(&mut self, file: usize, work: Work<'_>) -> Result<usize, SiteFault>
         ensures answers { result ≡ named None (Some file) (repair_answer (model_of R.ReadRow F.Field C.Cipher self.old) file (is_short work.entry)) }
-        ensures becomes { model_of R.ReadRow F.Field C.Cipher self.new ≡ leaves result (model_of R.ReadRow F.Field C.Cipher self.old) (repair_after (model_of R.ReadRow F.Field C.Cipher self.old) file) }
+        ensures becomes { let model = model_of R.ReadRow F.Field C.Cipher in model self.new ≡ leaves result (model self.old) (repair_after (model self.old) file) }
         ensures wiped { Wiped work.entry work.exit }
     {
         let Work {

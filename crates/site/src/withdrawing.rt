@@ -31,7 +31,7 @@ fn clear_all<R: Row>(row: &mut R, n: usize, file: usize)
 impl<R: Row, C: Cipher, F: Field> Site<R, C, F> {
     fn withdraw_current(&mut self, file: usize) -> Result<(), SiteCause>
         ensures answers { result ≡ withdraw_answer (model_of R.ReadRow F.Field C.Cipher self.old) file }
-        ensures becomes { model_of R.ReadRow F.Field C.Cipher self.new ≡ leaves result (model_of R.ReadRow F.Field C.Cipher self.old) (withdraw_after (model_of R.ReadRow F.Field C.Cipher self.old) file) }
+        ensures becomes { let model = model_of R.ReadRow F.Field C.Cipher in model self.new ≡ leaves result (model self.old) (withdraw_after (model self.old) file) }
     {
         self.current(file)?;
         let n = self.plan.fitted();
@@ -44,7 +44,7 @@ impl<R: Row, C: Cipher, F: Field> Site<R, C, F> {
     // reach. Refuses a file that is not there, and then one that is not current.
     pub fn withdraw(&mut self, file: usize) -> Result<(), SiteFault>
         ensures answers { result ≡ named None (Some file) (withdraw_answer (model_of R.ReadRow F.Field C.Cipher self.old) file) }
-        ensures becomes { model_of R.ReadRow F.Field C.Cipher self.new ≡ leaves result (model_of R.ReadRow F.Field C.Cipher self.old) (withdraw_after (model_of R.ReadRow F.Field C.Cipher self.old) file) }
+        ensures becomes { let model = model_of R.ReadRow F.Field C.Cipher in model self.new ≡ leaves result (model self.old) (withdraw_after (model self.old) file) }
     {
         told(self.withdraw_current(file), None, Some(file))
     }
