@@ -15,7 +15,7 @@ use cipher::Cipher;
 use erasure::{Head, record_length};
 use rows::row::Row;
 
-// Refuses a file that is not there.
+// Refuses a file that is not there. That it is below 8 stays a clause: a number of a type of its own would be unpacked in each of them.
 pub(crate) fn check_file(file: usize) -> Result<(), SiteCause>
     ensures answers { result ≡ refuse (nat_le 8 file) NoFile (Ok tt) }
     ensures there { IfOk result (λ _. file < 8) }

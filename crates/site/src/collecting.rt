@@ -16,7 +16,7 @@ use standing::{Lowest, gather, lowest_standing, survey_of};
 
 impl<R: Row, C: Cipher, F: Field> Site<R, C, F> {
     // Reads the records of the k lowest cabinets that stand for a file, end to end into the front of a buffer, and answers
-    // these cabinets; what is kept of the file is passed along. Refuses where fewer stand.
+    // these cabinets; what is kept of the file is passed along, since a struct of both could not say whose site keeps it. Refuses where fewer stand.
     pub(crate) fn collect(
         &self,
         file: usize,

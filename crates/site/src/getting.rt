@@ -23,7 +23,7 @@ use memory::{Buffers, Work, wipe_all};
 use recovery::join;
 use rows::row::Row;
 
-// Joins a package from records, over the whole of a buffer of just its length.
+// Joins a package from records, over the whole of a buffer of just its length, which is why no Source is taken: it would say the length twice.
 fn join_over<F: Field>(
     plan: &Plan,
     positions: &[u8],

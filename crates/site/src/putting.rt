@@ -36,6 +36,7 @@ fn package_size(key: &[u8], bytes: &[u8]) -> Result<usize, SealFault>
 }
 
 // Writes the record of a cabinet in reach, cut from the slices of a package of so many bytes.
+// Its parameters are those of cut_spread and of a row's write, and no struct: each is passed on as it is, once.
 fn write_at<R: Row, F: Field>(
     row: &mut R,
     cabinet: usize,

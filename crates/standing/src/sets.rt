@@ -84,6 +84,7 @@ pub fn survey_of<R: ReadRow>(row: &R, n: usize, file: usize, due: Head) -> Surve
 pub fn away<R: ReadRow>(row: &R, n: usize) -> u16
     ensures { result ≡ away_of (R.ReadRow.model row.now) (min n 16) }
 {
+    // a loop as survey_of has, and no fold: a fold's closure would have to say of each set that it is below the cabinet
     let mut set = 0;
     for c in 0..n.min(16) {
         set = with_member(set, c, !in_reach(row, c));
