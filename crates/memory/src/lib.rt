@@ -1,7 +1,7 @@
-// Working memory that a caller lends for one call, and the guard that wipes it.
+// Working memory that a caller lends for one call, and that is zero when the call has returned.
 #![tactic(auto)]
 
-ghost use Rattle.std.specs.Prelude.{◌≡◌, length};
+ghost use Rattle.std.specs.Prelude.{◌≡◌, is_none, length};
 ghost use Rattle.memory.specs.Zeros.{short, zeroed};
 
 // Bytes that each of the four buffers is to have at least.
@@ -9,6 +9,7 @@ pub const LEAST: usize = 6400;
 
 // Four buffers for one call, named by what they hold while it works. What they held before does not matter, and they are zero
 // when it has returned.
+#[derive(Drop)]
 pub struct Work<'a> {
     // a package
     pub sealed: &'a mut [u8],
@@ -20,52 +21,43 @@ pub struct Work<'a> {
     pub opened: &'a mut [u8],
 }
 
-// Whether a buffer is too short, of four that have so many bytes.
-pub fn is_short(sealed: usize, spread: usize, records: usize, opened: usize) -> bool
-    ensures { result ≡ short sealed spread records opened }
-{
-    sealed < LEAST || spread < LEAST || records < LEAST || opened < LEAST
+// The fronts of the four buffers, each of the least length.
+#[derive(Drop)]
+pub struct Buffers<'a> {
+    pub sealed: &'a mut [u8; LEAST],
+    pub spread: &'a mut [u8; LEAST],
+    pub records: &'a mut [u8; LEAST],
+    pub opened: &'a mut [u8; LEAST],
 }
 
-// A guard over the four buffers: they are zero once it ends.
-pub struct Wipe<'a> {
-    pub sealed: &'a mut [u8],
-    pub spread: &'a mut [u8],
-    pub records: &'a mut [u8],
-    pub opened: &'a mut [u8],
-}
-
-impl Drop for Wipe<'_> {
-    fn drop(self)
-        ensures sealed { self.exit.0.now ≡ zeroed self.entry.sealed.now }
-        ensures spread { self.exit.1.0.now ≡ zeroed self.entry.spread.now }
-        ensures records { self.exit.1.1.0.now ≡ zeroed self.entry.records.now }
-        ensures opened { self.exit.1.1.1.0.now ≡ zeroed self.entry.opened.now }
+impl<'a> Buffers<'a> {
+    // Those of four buffers, or nothing where one of them is too short.
+    pub fn of(
+        sealed: &'a mut [u8],
+        spread: &'a mut [u8],
+        records: &'a mut [u8],
+        opened: &'a mut [u8],
+    ) -> Option<Buffers<'a>>
+        ensures { is_none result ≡ short (length sealed.old) (length spread.old) (length records.old) (length opened.old) }
     {
-        self.sealed.fill(0);
-        self.spread.fill(0);
-        self.records.fill(0);
-        self.opened.fill(0);
-        let Wipe {
-            sealed: _,
-            spread: _,
-            records: _,
-            opened: _,
-        } = self;
+        Some(Buffers {
+            sealed: sealed.first_chunk_mut()?,
+            spread: spread.first_chunk_mut()?,
+            records: records.first_chunk_mut()?,
+            opened: opened.first_chunk_mut()?,
+        })
     }
 }
 
-// Makes the four buffers zero.
+// Makes the four buffers zero. They are four and no Work: of a struct that is lent or dropped whole, a caller's proof learns not what is left behind its fields.
 pub fn wipe_all(sealed: &mut [u8], spread: &mut [u8], records: &mut [u8], opened: &mut [u8])
     ensures sealed { sealed.new ≡ zeroed sealed.old }
     ensures spread { spread.new ≡ zeroed spread.old }
     ensures records { records.new ≡ zeroed records.old }
     ensures opened { opened.new ≡ zeroed opened.old }
 {
-    let _wipe = Wipe {
-        sealed,
-        spread,
-        records,
-        opened,
-    };
+    sealed.fill(0);
+    spread.fill(0);
+    records.fill(0);
+    opened.fill(0);
 }

@@ -1,5 +1,5 @@
 -- The records that a file is restored from: how many, and how long. Assumes nothing.
-use Rattle.std.proofs.Common.{◌≡◌, ℕ, ◌*◌, ◌≤◌, min, true, false, List, length, get_or, take, Ok, sym, ap, ◌∙◌, subst, inl, inr, mul-zero, arith}
+use Rattle.std.proofs.Common.{◌≡◌, ℕ, ◌*◌, ◌≤◌, min, true, false, List, length, get_or, Ok, sym, ap, ◌∙◌, subst, inl, inr, mul-zero, arith}
 use Rattle.std.specs.List.{flat_map, AllByRecursion}
 use Rattle.std.proofs.ByRecursion.{All-get_or, All-weaker}
 use Rattle.std.proofs.lemmas.Bool.{cases_Bool, cond_both, le-ltb, ltb-false}
@@ -60,37 +60,31 @@ records-bound S f W least most =
     (λ t. records_fit_memory (code S).ops (code S).width (code S).stored (code S).number W k (package_bytes S f) least most (fits (package_bytes S f) t).2)
 
 -- What the code finds where enough stand, by its own names of the numbers.
-module _ (S : SiteModel) (most : fitted S ≤ 16) (f k n found : ℕ) (state : Kept) (head : Head) (places : List ℕ) (same : state ≡ kept S f) (ek : k ≡ needed S) (en : n ≡ fitted S) (eh : head ≡ due_for S.fit state)
-    (ef : found ≡ length (lowest k (stands S.row head f) (min n 16))) (ep : take found places ≡ lowest k (stands S.row head f) (min n 16)) (le : k ≤ found) where
+module _ (S : SiteModel) (most : fitted S ≤ 16) (f k n : ℕ) (state : Kept) (head : Head) (places : List ℕ) (same : state ≡ kept S f) (ek : k ≡ needed S) (en : n ≡ fitted S) (eh : head ≡ due_for S.fit state)
+    (ep : places ≡ lowest k (stands S.row head f) (min n 16)) (le : k ≤ length places) where
   head_is : head ≡ due S f
   head_is = eh ∙ ap (due_for S.fit) same
 
-  found_are : lowest k (stands S.row head f) (min n 16) ≡ positions S f
-  found_are =
+  places_are : places ≡ positions S f
+  places_are =
       let all : min n 16 ≡ fitted S = omega (arith, most, en) in
-      ap (λ m. lowest k (stands S.row head f) m) all ∙ ap (λ h. lowest k (stands S.row h f) (fitted S)) head_is ∙ ap (λ m. lowest m (standing S f) (fitted S)) ek
+      ep ∙ ap (λ m. lowest k (stands S.row head f) m) all ∙ ap (λ h. lowest k (stands S.row h f) (fitted S)) head_is ∙ ap (λ m. lowest m (standing S f) (fitted S)) ek
 
-  found_count : found ≡ min (needed S) (count_of (standing S f) (fitted S))
-  found_count = ef ∙ ap length found_are ∙ length-lowest (standing S f) (needed S) (fitted S)
+  count : length (positions S f) ≡ needed S
+  count = omega (arith, length-lowest (standing S f) (needed S) (fitted S), ap length places_are, ek, le)
 
   enough_found : Ok 0 ≡ enough S f
   enough_found =
-      sym (passes (too_few S f) (TooFew (absent_of S.row (due S f) f (fitted S))) (Ok 0) (le-ltb (count_of (standing S f) (fitted S)) (needed S) (omega (arith, found_count, ek, le))))
-
-  places_are : take (needed S) places ≡ positions S f
-  places_are =
-      let all : needed S ≡ found = omega (arith, found_count, ek, le) in
-      ap (λ m. take m places) all ∙ ep ∙ found_are
+      sym (passes (too_few S f) (TooFew (absent_of S.row (due S f) f (fitted S))) (Ok 0)
+      (le-ltb (count_of (standing S f) (fitted S)) (needed S) (omega (arith, length-lowest (standing S f) (needed S) (fitted S), count))))
 
   -- and what it then gathers
-  pub collected : (ps was now : List ℕ) (stride : ℕ) → ps ≡ take k places → stride ≡ head.whole → needed S * whole S f ≤ 6400 → 6400 ≤ length was →
-      (AllByRecursion (Holds S.row f stride) ps → length ps * stride ≤ length was → now ≡ over (flat_map (λ c. held (S.row.slot c f)) ps) was) →
-      (Ok 0 ≡ enough S f) × (take (needed S) places ≡ positions S f) × (now ≡ over (records S f) was)
-  collected ps was now stride eps es bound room read =
-      let here : ps ≡ positions S f = eps ∙ ap (λ m. take m places) ek ∙ places_are in
+  pub collected : (was now : List ℕ) (stride : ℕ) → stride ≡ head.whole → needed S * whole S f ≤ 6400 → 6400 ≤ length was →
+      (AllByRecursion (Holds S.row f stride) places → length places * stride ≤ length was → now ≡ over (flat_map (λ c. held (S.row.slot c f)) places) was) →
+      (Ok 0 ≡ enough S f) × (places ≡ positions S f) × (now ≡ over (records S f) was)
+  collected was now stride es bound room read =
       let wide : stride ≡ whole S f = es ∙ ap (λ h. h.whole) head_is in
-      let hold : AllByRecursion (Holds S.row f stride) ps = subst (λ m. AllByRecursion (Holds S.row f m) ps) (sym wide) (subst (AllByRecursion (Holds S.row f (whole S f))) (sym here) (positions_hold S f)) in
-      let count : length (positions S f) ≡ needed S = omega (arith, ap length found_are, ef, found_count, ek, le) in
-      let fit : length ps * stride ≤ length was =
-      omega (arith, bound, room, ap (λ m. length ps * m) wide, ap (λ xs. length xs * whole S f) here, ap (λ m. m * whole S f) count) in
-      (enough_found, places_are, read hold fit ∙ ap (λ xs. over (flat_map (λ c. held (S.row.slot c f)) xs) was) here)
+      let hold : AllByRecursion (Holds S.row f stride) places = subst (λ m. AllByRecursion (Holds S.row f m) places) (sym wide) (subst (AllByRecursion (Holds S.row f (whole S f))) (sym places_are) (positions_hold S f)) in
+      let fit : length places * stride ≤ length was =
+      omega (arith, bound, room, ap (λ m. length places * m) wide, ap (λ xs. length xs * whole S f) places_are, ap (λ m. m * whole S f) count) in
+      (enough_found, places_are, read hold fit ∙ ap (λ xs. over (flat_map (λ c. held (S.row.slot c f)) xs) was) places_are)

@@ -1,7 +1,6 @@
 pub mod Rounds
 pub mod Collected
 pub mod Puts
-pub mod Accepted
 pub mod Opened
 pub mod GotBack
 pub mod Rebuilding

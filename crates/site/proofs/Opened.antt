@@ -78,15 +78,12 @@ module _ (S : SiteModel) (sound : Sound S.row) (W : Widths (code S).ops (code S)
   pub package-within : bytes ≤ 4128
   package-within = omega (arith, bytes_due, (fits (package_bytes S f) (package-fits S sound plan.2 f many plan.0)).2)
 
-  module _ (places rs was sealed opened last rest : List ℕ) (r : Result ℕ SiteCause) (ep : take (needed S) places ≡ positions S f) (er : rs ≡ over (records S f) was)
+  module _ (places rs was sealed opened last rest : List ℕ) (r : Result ℕ SiteCause) (ep : places ≡ positions S f) (er : rs ≡ over (records S f) was)
       (room : 6400 ≤ length sealed) (space : 6400 ≤ length opened)
-      (answer : r ≡ opening S (length (take (bytes - 0) sealed)) (take (k - 0) places) (take (k * wide - 0) rs) (length (take 4092 opened)) state.size)
-      (opens : IfOk r (λ _. last ≡ over (unsealed S.fit.encrypt S.fit.cipher (package_from (code S) (length (take (bytes - 0) sealed)) (take (k - 0) places) (take (k * wide - 0) rs))) (take 4092 opened))) where
+      (answer : r ≡ opening S (length (take (bytes - 0) sealed)) places (take (k * wide - 0) rs) (length (take 4092 opened)) state.size)
+      (opens : IfOk r (λ _. last ≡ over (unsealed S.fit.encrypt S.fit.cipher (package_from (code S) (length (take (bytes - 0) sealed)) places (take (k * wide - 0) rs))) (take 4092 opened))) where
     bytes_are : length (take (bytes - 0) sealed) ≡ package_bytes S f
     bytes_are = omega (arith, length-take (bytes - 0) sealed, package-within, bytes_due)
-
-    places_are : take (k - 0) places ≡ positions S f
-    places_are = ap (λ m. take m places) (sub-zero k ∙ ek) ∙ ep
 
     records_are : take (k * wide - 0) rs ≡ records S f
     records_are =
@@ -96,8 +93,8 @@ module _ (S : SiteModel) (sound : Sound S.row) (W : Widths (code S).ops (code S)
     opened_are : r ≡ opening S (package_bytes S f) (positions S f) (records S f) 4092 (kept S f).size
     opened_are =
         let out : length (take 4092 opened) ≡ 4092 = omega (arith, length-take 4092 opened) in
-        answer ∙ ap (λ b. opening S b (take (k - 0) places) (take (k * wide - 0) rs) (length (take 4092 opened)) state.size) bytes_are
-        ∙ ap (λ ps. opening S (package_bytes S f) ps (take (k * wide - 0) rs) (length (take 4092 opened)) state.size) places_are
+        answer ∙ ap (λ b. opening S b places (take (k * wide - 0) rs) (length (take 4092 opened)) state.size) bytes_are
+        ∙ ap (λ ps. opening S (package_bytes S f) ps (take (k * wide - 0) rs) (length (take 4092 opened)) state.size) ep
         ∙ ap (λ xs. opening S (package_bytes S f) (positions S f) xs (length (take 4092 opened)) state.size) records_are
         ∙ ap (λ o. opening S (package_bytes S f) (positions S f) (records S f) o state.size) out ∙ ap (λ s. opening S (package_bytes S f) (positions S f) (records S f) 4092 s.size) same
 
@@ -106,9 +103,9 @@ module _ (S : SiteModel) (sound : Sound S.row) (W : Widths (code S).ops (code S)
 
     restored_file : IfOk r (λ n. (n ≡ length (got_file S f)) × (take n (last ++ rest) ≡ got_file S f))
     restored_file =
-        let same : package_from (code S) (length (take (bytes - 0) sealed)) (take (k - 0) places) (take (k * wide - 0) rs) ≡ got_package S f =
-        ap (λ b. package_from (code S) b (take (k - 0) places) (take (k * wide - 0) rs)) bytes_are
-        ∙ ap (λ ps. package_from (code S) (package_bytes S f) ps (take (k * wide - 0) rs)) places_are
+        let same : package_from (code S) (length (take (bytes - 0) sealed)) places (take (k * wide - 0) rs) ≡ got_package S f =
+        ap (λ b. package_from (code S) b places (take (k * wide - 0) rs)) bytes_are
+        ∙ ap (λ ps. package_from (code S) (package_bytes S f) ps (take (k * wide - 0) rs)) ep
         ∙ ap (package_from (code S) (package_bytes S f) (positions S f)) records_are in
         by r opened_are (subst (λ pkg. IfOk r (λ _. last ≡ over (unsealed S.fit.encrypt S.fit.cipher pkg) (take 4092 opened))) same opens)
       where

@@ -1,19 +1,16 @@
 -- A file is sealed, and the record of each cabinet is cut and written. Assumes nothing.
-use Rattle.std.proofs.Common.{◌≡◌, ℕ, ◌+◌, ◌-◌, ◌*◌, ◌<◌, ◌≤◌, Bool, true, false, not, eqb, ltb, List, length, take, drop, Some, None, Ok, Result, sym, refl, ap, ◌∙◌, subst, arith}
+use Rattle.std.proofs.Common.{◌≡◌, ℕ, ◌+◌, ◌-◌, ◌*◌, ◌<◌, ◌≤◌, true, false, not, eqb, ltb, List, length, take, drop, Some, None, Ok, Result, sym, ap, ◌∙◌, arith}
 use native.Mathlib.Nat.{sub-zero}
 use Rattle.std.proofs.lemmas.List.{length-append, take_at}
-use Rattle.std.proofs.lemmas.Bool.{le-ltb, eq-eqb, not_from_true}
+use Rattle.std.proofs.lemmas.Bool.{le-ltb}
 use Rattle.base.specs.Answers.{leaves, refuse}
 use Rattle.base.specs.Bytes.{Bytes, over}
 use Rattle.base.specs.Sizes.{misfit}
 use Rattle.base.proofs.Lengths.{fits_so}
-use Rattle.base.proofs.Parts.{Bytes-take}
 use Rattle.base.proofs.Refusing.{past, passes, leaves_ok}
 use Rattle.algebra.specs.Fields.{Laws, Widths}
 use Rattle.algebra.specs.Slices.{combined}
-use Rattle.aont.specs.declared.fault.SealFault.{SealFault}
 use Rattle.aont.specs.Package.{package_length, sealed}
-use Rattle.aont.specs.Seals.{seal_answer}
 use Rattle.aont.proofs.Sealed.{length-sealed}
 use Rattle.erasure.specs.declared.fault.SliceCause.TheVariants.{NoCabinet, PackageMisfit, IssueZero, OutputShort}
 use Rattle.erasure.specs.declared.fault.SliceFault.{SliceFault}
@@ -29,7 +26,6 @@ use Rattle.rows.specs.Calls.{write_answer}
 use Rattle.rows.specs.Model.{RowModel, Sound, Held, with_slot}
 use Rattle.rows.proofs.Laws.{write_accepted}
 use Rattle.standing.proofs.Laws.{reached_there}
-use Rattle.site.specs.Model.{with_slots}
 
 -- a file that can be sealed has a package
 pub package-fits : (n : ℕ) → n ≤ 4092 → misfit (package_length n) ≡ false
@@ -77,21 +73,8 @@ module _ (E : List ℕ → List ℕ → List ℕ) (number : ℕ) (key file : Lis
   long : length pkg ≡ package_length (length file)
   long = length-sealed E number key file wide
 
-  seal_accepted : (out : ℕ) → 6400 ≤ out → seal_answer (length file) (length key) out ≡ Ok (package_length (length file))
-  seal_accepted out room =
-      passes (ltb 4092 (length file)) _ _ (le-ltb 4092 (length file) few) ∙ passes (not (eqb (length key) 16)) _ _ (not_from_true (eqb (length key) 16) (eq-eqb (length key) 16 wide))
-      ∙ passes (ltb out (package_length (length file))) _ _ (le-ltb out (package_length (length file)) (omega arith))
-
-  -- the package stands in the front of an output
-  pub file_sealed : (out last : List ℕ) (answer : Result ℕ SealFault) → 6400 ≤ length out → answer ≡ seal_answer (length file) (length key) (length out) → last ≡ leaves answer out (over pkg out) → last ≡ over pkg out
-  file_sealed out last answer room ea el = el ∙ leaves_ok answer _ out (over pkg out) (ea ∙ seal_accepted (length out) room)
-
   package_front : (size : ℕ) (out last : List ℕ) → size ≡ package_length (length file) → last ≡ over pkg out → take size last ≡ pkg
   package_front size out last es el = ap (take size) el ∙ take_at pkg (drop (length pkg) out) size (long ∙ sym es)
-
-  pub Bytes-sealed : (out last : List ℕ) → Bytes last → last ≡ over pkg out → Bytes pkg
-  Bytes-sealed out last typed el =
-      let size = package_length (length file) in subst Bytes (package_front size out last refl el) (Bytes-take size last typed)
 
   module _ (C : Coding) (L : Laws C.ops) (W : Widths C.ops C.width C.stored C.number) (low : 1 ≤ C.needed) (high : C.needed ≤ 16) where
     spread_accepted : (out : ℕ) → 6400 ≤ out → spread_answer C (length pkg) out ≡ Ok (C.needed * (columns C (length pkg) * C.stored))
@@ -112,7 +95,3 @@ module _ (E : List ℕ → List ℕ → List ℕ) (number : ℕ) (key file : Lis
         ∙ leaves_ok answer _ slices (over (spread C pkg) slices) (ea ∙ ap (λ xs. spread_answer C (length xs) (length slices)) front ∙ spread_accepted (length slices) room) in
         ap (λ xs. record_from C (package_length (length file)) xs c issue) there
         ∙ record_is C L W pkg (drop (length (spread C pkg)) slices) (package_length (length file)) c issue bytes (sym long)
-
--- the row with other names of the same records
-pub same_records : (m : RowModel) (which : ℕ → Bool) (f : ℕ) (a b : ℕ → List ℕ) → ((c : ℕ) → a c ≡ b c) → with_slots m which f (λ c. Held (a c)) ≡ with_slots m which f (λ c. Held (b c))
-same_records m which f a b e = λ i. with_slots m which f (λ c. Held (e c i))

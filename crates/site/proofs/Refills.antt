@@ -1,7 +1,7 @@
 -- A refill: one file after the other, each of which leaves the others as they were. Assumes nothing.
-use Rattle.std.proofs.Common.{◌≡◌, ℕ, ◌+◌, ◌-◌, ◌^◌, ◌<◌, ◌≤◌, Bool, true, false, cond, not, ◌&&◌, eqb, ltb, List, length, take, is_ok, Ok, Err, Result, sym, refl, ap, ◌∙◌, subst, ⊎_elim, arith}
+use Rattle.std.proofs.Common.{◌≡◌, ℕ, zero, suc, ◌+◌, ◌-◌, ◌^◌, ◌<◌, ◌≤◌, Bool, true, false, cond, not, ◌&&◌, eqb, ltb, List, length, take, is_ok, Ok, Err, Result, sym, refl, ap, ◌∙◌, subst, ⊎_elim, arith}
 use Rattle.std.proofs.lemmas.List.{length-take}
-use Rattle.std.proofs.lemmas.Bool.{cases_eq, and_from, and_left, and_parts, and_right, eq-eqb, le-ltb, lt-ltb, ne_eqb, not-false, not_from_false, not-true}
+use Rattle.std.proofs.lemmas.Bool.{cases_eq, and_from, and_left, and_parts, and_right, eq-eqb, le-ltb, lt-ltb, ne_eqb, not-false, not_from_false}
 use Rattle.base.specs.Answers.{leaves, pass}
 use Rattle.erasure.specs.declared.fault.SliceFault.{SliceFault}
 use Rattle.erasure.specs.declared.head.Head.{Head}
@@ -10,14 +10,14 @@ use Rattle.recovery.specs.Formula.{rebuilt}
 use Rattle.rows.specs.Model.{RowModel, Slot, Sound, Held, with_slot}
 use Rattle.rows.proofs.Laws.{same_model}
 use Rattle.standing.specs.Sets.{set_of}
-use Rattle.standing.proofs.Members.{set_below, set_next, set_none}
+use Rattle.standing.proofs.Members.{set_next, set_none}
 use Rattle.site.specs.declared.fault.SiteCause.{SiteCause}
 use Rattle.site.specs.declared.fault.SiteCause.TheVariants.{Slice}
 use Rattle.site.specs.declared.files.Kept.{Kept}
 use Rattle.site.specs.Calls.{of_current, rebuilding, rebuilt_record}
 use Rattle.site.specs.Model.{SiteModel, code, due, fitted, kept, lacking, package_bytes, positions, records, too_few, whole, with_row}
-use Rattle.site.specs.Orders.{served}
-use Rattle.site.specs.Steps.{Long, lacks}
+use Rattle.site.specs.Orders.{refilled_row, served}
+use Rattle.site.specs.Steps.{lacks}
 use Rattle.site.proofs.Repairs.{is_current_now}
 use Rattle.site.proofs.Rewriting.{lacks_told}
 use Rattle.site.proofs.Rounds.{same_below}
@@ -73,9 +73,6 @@ module _ (S : SiteModel) (c : ℕ) (short : Bool) where
   pub refilling_none : Refilling 0 0 S
   refilling_none = record { set = sym (set_none (served S c short)); site = ap (with_row S) (upto_none S.row c (served S c short) new) }
 
-  pub refilling_below : (f written : ℕ) (now : SiteModel) → Refilling f written now → written < 2 ^ f
-  refilling_below f written now r = set_below (served S c short) f written r.set
-
   pub refilling_done : (f written : ℕ) (now : SiteModel) → f ≡ 8 → Refilling f written now → Refilling 8 written now
   refilling_done f written now e r = subst (λ n. Refilling n written now) e r
 
@@ -96,38 +93,53 @@ module _ (S : SiteModel) (c : ℕ) (short : Bool) where
     rebuilt_still : rebuilt_record (with_row S now_row) f c ≡ rebuilt_record S f c
     rebuilt_still = ap (λ s. rebuilt_record (alone s) f c) own
 
-    pub refilling_next : (written next : ℕ) (now last : SiteModel) (b : Bool) → Refilling f written now → b ≡ served now c short f →
-        last ≡ with_row now (cond b (with_slot now.row c f (Held (rebuilt_record now f c))) now.row) → next ≡ written + cond b (2 ^ f) 0 → Refilling (f + 1) next last
-    refilling_next written next now last b r eb el en =
+    pub refilling_next : (written next : ℕ) (now last : SiteModel) (b : Bool) → f < 16 → Refilling f written now → b ≡ served now c short f →
+        last ≡ with_row now (cond b (with_slot now.row c f (Held (rebuilt_record now f c))) now.row) → (f < 16 → written < 2 ^ f → next ≡ written + cond b (2 ^ f) 0) → Refilling (f + 1) next last
+    refilling_next written next now last b few r eb el en =
         let is : b ≡ served S c short f = eb ∙ ap (λ T. served T c short f) r.site ∙ served_still in
         record {
-          set = set_next (served S c short) f written next b r.set is en;
+          set = set_next (served S c short) f written next b few r.set is en;
           site = el ∙ ap (λ T. with_row T (cond b (with_slot T.row c f (Held (rebuilt_record T f c))) T.row)) r.site
               ∙ ap (λ bs. with_row S (cond b (with_slot now_row c f (Held bs)) now_row)) rebuilt_still ∙ ap (with_row S) (upto_more S.row c (served S c short) new f b is);
         }
 
+-- With short memory nothing is written.
+module _ (S : SiteModel) (c : ℕ) where
+  none-served : (f : ℕ) → served S c true f ≡ false
+  none-served f = let before = (kept S f).current && ltb c (fitted S) && lacking S f c && not (too_few S f) in
+      and_left (before && false) (is_ok (rebuilding S f c)) (and_right before false refl)
+
+  none_of : (test : ℕ → Bool) → ((f : ℕ) → test f ≡ false) → (n : ℕ) → 0 ≡ set_of test n
+  unfolding set_of
+  none_of test h zero = refl
+  none_of test h (suc n) = omega (arith, none_of test h n, ap (λ b. cond b (2 ^ n) 0) (h n))
+
+  pub short_set : 0 ≡ set_of (served S c true) 8
+  short_set = none_of (served S c true) none-served 8
+
+  pub short_site : S ≡ with_row S (refilled_row S c true)
+  short_site = ap (with_row S) (same_model S.row (refilled_row S c true) refl refl (λ d. refl)
+      (λ d g. sym (ap (λ b. cond b (Held (rebuilt_record S g c)) (S.row.slot d g)) (and_right (eqb d c && ltb g 8) (served S c true g) (none-served g)))))
+
 -- One file, whose record the cabinet takes.
-module _ (S : SiteModel) (c f : ℕ) (short : Bool) (last : Kept) (here : of_current S f (Ok (kept S f)) ≡ Ok last) (head : Head) (eh : head ≡ due S f)
-    (can : (not short && ltb c (fitted S) && lacks S.row head f c) ≡ true) where
-  takes : (not short ≡ true) × (ltb c (fitted S) ≡ true) × (lacks S.row head f c ≡ true)
-  takes =
-      let p = and_parts (not short && ltb c (fitted S)) (lacks S.row head f c) can in
-      let q = and_parts (not short) (ltb c (fitted S)) p.0 in
-      (q.0, q.1, p.1)
+module _ (S : SiteModel) (c f : ℕ) (last : Kept) (here : of_current S f (Ok (kept S f)) ≡ Ok last) (head : Head) (eh : head ≡ due S f)
+    (can : (ltb c (fitted S) && lacks S.row head f c) ≡ true) where
+  takes : (ltb c (fitted S) ≡ true) × (lacks S.row head f c ≡ true)
+  takes = and_parts (ltb c (fitted S)) (lacks S.row head f c) can
 
-  served_is : too_few S f ≡ false → served S c short f ≡ is_ok (rebuilding S f c)
+  served_is : too_few S f ≡ false → served S c false f ≡ is_ok (rebuilding S f c)
   served_is more = ap (λ b. b && is_ok (rebuilding S f c))
-      (and_from _ (not short)
-      (and_from _ (not (too_few S f)) (and_from _ (lacking S f c) (and_from (kept S f).current (ltb c (fitted S)) (not-false (kept S f).current (is_current_now S f last here)) takes.1)
-      (ap (λ h. lacks S.row h f c) (sym eh) ∙ takes.2)) (not_from_false (too_few S f) more)) takes.0)
+      (and_from _ true
+      (and_from _ (not (too_few S f)) (and_from _ (lacking S f c) (and_from (kept S f).current (ltb c (fitted S)) (not-false (kept S f).current (is_current_now S f last here)) takes.0)
+      (ap (λ h. lacks S.row h f c) (sym eh) ∙ takes.1)) (not_from_false (too_few S f) more)) refl)
 
-  module _ (sound : Sound S.row) (was spread : List ℕ) (long : Long short was spread) (w : ℕ) (ew : w ≡ head.whole) where
+  module _ (sound : Sound S.row) (spread : List ℕ) (long : length spread ≡ 6400) (w : ℕ) (ew : w ≡ head.whole) where
     pub spread_end : w ≤ length spread
-    spread_end = omega (arith, (lacks_told S.row head f c takes.2).fits, sound.small, (long (not-true short takes.0)).1, ew)
+    spread_end = omega (arith, (lacks_told S.row head f c takes.1).fits, sound.small, long, ew)
 
     module _ (more : too_few S f ≡ false) (bytes : ℕ) (ps rs : List ℕ) (eb : bytes ≡ package_bytes S f) (ep : ps ≡ positions S f) (er : rs ≡ records S f)
         (r : Result Unit SiteCause) (b : Bool) (is : b ≡ is_ok r) where
-      pub refill_told : r ≡ pass Slice (rebuild_answer (code S) (fitted S) bytes ps rs c (length (take (w - 0) spread))) (λ _. Ok tt) → b ≡ served S c short f
+      pub refill_told : r ≡ pass Slice (rebuild_answer (code S) (fitted S) bytes ps rs c (length (take (w - 0) spread))) (λ _. Ok tt) → b ≡ served S c false f
       refill_told e =
           let long_2 : length (take (w - 0) spread) ≡ whole S f = omega (arith, length-take (w - 0) spread, spread_end, ew, ap (λ h. h.whole) eh) in
           is ∙ ap is_ok

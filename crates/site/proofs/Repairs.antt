@@ -38,12 +38,12 @@ module _ (S : SiteModel) (f : ℕ) where
   pub are_enough : (r : Result (List ℕ) SiteCause) (ps : List ℕ) → ended r ≡ enough S f → r ≡ Ok ps → too_few S f ≡ false
   are_enough r ps e ok = (past (too_few S f) (TooFew (absent_of S.row (due S f) f (fitted S))) (Ok 0) 0 (sym e ∙ ap ended ok)).0
 
-  module _ (sound : Sound S.row) (most : fitted S ≤ 16) (more : too_few S f ≡ false) (was out : List ℕ) (eo : out ≡ over (records S f) was) (long : length out ≡ length was) where
+  module _ (sound : Sound S.row) (most : fitted S ≤ 16) (more : too_few S f ≡ false) (was out : List ℕ) (eo : out ≡ over (records S f) was) where
     size : length (records S f) ≡ needed S * whole S f
     size = length-records S sound most f more
 
     pub within : needed S * whole S f ≤ length out
-    within = omega (arith, size, ap length eo, length-append (records S f) (drop (length (records S f)) was), long)
+    within = omega (arith, size, ap length eo, length-append (records S f) (drop (length (records S f)) was))
 
     pub collected : (n : ℕ) → n ≡ needed S * whole S f → take n out ≡ records S f
     collected n e = ap (take n) eo ∙ take_at (records S f) (drop (length (records S f)) was) n (size ∙ sym e)

@@ -2,10 +2,10 @@
 use Rattle.std.specs.Prelude.{ℕ, Ok, Err, Option, Result}
 use Rattle.aont.specs.Seals.{seal_number}
 use Rattle.erasure.specs.Slices.{slice_number}
+use Rattle.rows.specs.declared.fault.Fault.{Fault}
 use Rattle.rows.specs.Faults.{row_number}
 use Rattle.site.specs.declared.fault.SiteCause.{SiteCause}
 use Rattle.site.specs.declared.fault.SiteCause.TheVariants.{Row, Slice, Seal, TooFew, NoCabinet, RoomShort, NoFile, IssueOld, NotCurrent, MemoryShort, OutputShort, MarkClosed}
-use Rattle.site.specs.declared.fault.SiteFault.{SiteFault}
 
 -- the number of each cause; a fault of a lower layer keeps its own
 abbrev pub site_number : SiteCause → ℕ
@@ -38,6 +38,6 @@ site_layer OutputShort = 4
 site_layer MarkClosed = 4
 
 -- an answer whose refusal also tells the cabinet and the file that the call named
-abbrev pub named : {T : Type 0} → Option ℕ → Option ℕ → Result T SiteCause → Result T SiteFault
+abbrev pub named : {T : Type 0} → Option ℕ → Option ℕ → Result T SiteCause → Result T (Fault SiteCause)
 named c f (Ok x) = Ok x
 named c f (Err why) = Err (record { cause = why; cabinet = c; file = f })

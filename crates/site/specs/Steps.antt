@@ -1,18 +1,20 @@
 -- Words of private contracts, which nobody has to believe. Assumes nothing.
-use Rattle.std.specs.Prelude.{◌≡◌, ℕ, ◌≤◌, Bool, false, not, ◌&&◌, List, [], ◌∷◌, length, Ok, Err, Result, ◌==◌, nat_le}
+use Rattle.std.specs.Prelude.{ℕ, Bool, not, ◌&&◌, List, [], ◌∷◌, length, Ok, Err, Result, ◌==◌, nat_le, nat_lt}
 use Rattle.base.specs.Answers.{refuse, pass}
 use Rattle.aont.specs.declared.fault.SealFault.{SealFault}
 use Rattle.aont.specs.declared.fault.SealFault.TheVariants.{NoSuchFile}
-use Rattle.aont.specs.Seals.{unseal_answer}
-use Rattle.erasure.specs.Records.{Coding}
+use Rattle.aont.specs.Package.{package_length}
+use Rattle.aont.specs.Seals.{seal_answer, unseal_answer}
+use Rattle.erasure.specs.Records.{Coding, record_length}
 use Rattle.erasure.specs.declared.head.Head.{Head}
 use Rattle.recovery.specs.Answers.{join_answer, rebuild_answer}
 use Rattle.recovery.specs.Formula.{package_from}
 use Rattle.rows.specs.Model.{RowModel}
 use Rattle.standing.specs.Standing.{stands}
+use Rattle.standing.specs.Sets.{away_of, count_of}
 use Rattle.site.specs.declared.fault.SiteCause.{SiteCause}
-use Rattle.site.specs.declared.fault.SiteCause.TheVariants.{Slice, Seal}
-use Rattle.site.specs.Model.{SiteModel, code, fitted, kept, package_bytes, positions, records}
+use Rattle.site.specs.declared.fault.SiteCause.TheVariants.{Slice, Seal, TooFew, RoomShort, NoFile, IssueOld}
+use Rattle.site.specs.Model.{SiteModel, code, fitted, kept, needed, package_bytes, positions, records}
 use Rattle.site.specs.Calls.{with_enough}
 
 -- an answer, whatever it gives
@@ -53,6 +55,15 @@ abbrev pub rewrites : (ℕ → Result ℕ SiteCause) → List ℕ → Result ℕ
 rewrites answer [] = Ok 0
 rewrites answer (c ∷ cs) = pass (λ why. why) (answer c) (λ _. Ok (length (c ∷ cs)))
 
--- two buffers that are no shorter than working memory is, unless it is short
-abbrev pub Long : Bool → List ℕ → List ℕ → Type 0
-Long short records spread = short ≡ false → (6400 ≤ length records) × (6400 ≤ length spread)
+-- the bytes of the package of a file that may be put, and how many cabinets then get a record: put's checks on both sides of
+-- that of its memory
+abbrev pub put_sized : SiteModel → ℕ → ℕ → ℕ → ℕ → Result ℕ SiteCause
+put_sized S f issue key size =
+    refuse (nat_le 8 f) NoFile
+    (refuse (nat_le issue (kept S f).last) (IssueOld (kept S f).last) (pass Seal (seal_answer size key (package_length size)) Ok))
+
+abbrev pub put_reached : SiteModel → ℕ → Result ℕ SiteCause
+put_reached S bytes =
+    refuse (nat_lt S.row.room (record_length (code S) bytes)) RoomShort
+    (refuse (nat_lt (count_of S.row.reach (fitted S)) (needed S)) (TooFew (record { away = away_of S.row (fitted S); condemned = 0; empty = 0; old = 0 }))
+    (Ok (count_of S.row.reach (fitted S))))

@@ -15,13 +15,12 @@ use cipher::Cipher;
 use rows::row::Row;
 
 impl<R: Row, C: Cipher, F: Field> Site<R, C, F> {
+    // pull and plug, and clear and condemn, differ in one call of the row: of a closure's call a clause would say more than they save
     fn pull_fitted(&mut self, cabinet: usize) -> Result<(), SiteCause>
         ensures answers { result ≡ cabinet_call (model_of R.ReadRow F.Field C.Cipher self.old) cabinet }
-        ensures becomes { model_of R.ReadRow F.Field C.Cipher self.new ≡ leaves result (model_of R.ReadRow F.Field C.Cipher self.old) (reach_after (model_of R.ReadRow F.Field C.Cipher self.old) cabinet false) }
+        ensures becomes { let model = model_of R.ReadRow F.Field C.Cipher in model self.new ≡ leaves result (model self.old) (reach_after (model self.old) cabinet false) }
     {
-        if cabinet >= self.plan.fitted() {
-            return Err(SiteCause::NoCabinet);
-        }
+        self.check_cabinet(cabinet)?;
         self.row.pull(cabinet)?;
         Ok(())
     }
@@ -29,18 +28,16 @@ impl<R: Row, C: Cipher, F: Field> Site<R, C, F> {
     // Takes a cabinet out of reach. Refuses a cabinet that is not fitted, and then one that the row lacks.
     pub fn pull(&mut self, cabinet: usize) -> Result<(), SiteFault>
         ensures answers { result ≡ named (Some cabinet) None (cabinet_call (model_of R.ReadRow F.Field C.Cipher self.old) cabinet) }
-        ensures becomes { model_of R.ReadRow F.Field C.Cipher self.new ≡ leaves result (model_of R.ReadRow F.Field C.Cipher self.old) (reach_after (model_of R.ReadRow F.Field C.Cipher self.old) cabinet false) }
+        ensures becomes { let model = model_of R.ReadRow F.Field C.Cipher in model self.new ≡ leaves result (model self.old) (reach_after (model self.old) cabinet false) }
     {
         told(self.pull_fitted(cabinet), Some(cabinet), None)
     }
 
     fn plug_fitted(&mut self, cabinet: usize) -> Result<(), SiteCause>
         ensures answers { result ≡ cabinet_call (model_of R.ReadRow F.Field C.Cipher self.old) cabinet }
-        ensures becomes { model_of R.ReadRow F.Field C.Cipher self.new ≡ leaves result (model_of R.ReadRow F.Field C.Cipher self.old) (reach_after (model_of R.ReadRow F.Field C.Cipher self.old) cabinet true) }
+        ensures becomes { let model = model_of R.ReadRow F.Field C.Cipher in model self.new ≡ leaves result (model self.old) (reach_after (model self.old) cabinet true) }
     {
-        if cabinet >= self.plan.fitted() {
-            return Err(SiteCause::NoCabinet);
-        }
+        self.check_cabinet(cabinet)?;
         self.row.plug(cabinet)?;
         Ok(())
     }
@@ -48,21 +45,16 @@ impl<R: Row, C: Cipher, F: Field> Site<R, C, F> {
     // Puts a cabinet into reach. Refuses as `pull` does.
     pub fn plug(&mut self, cabinet: usize) -> Result<(), SiteFault>
         ensures answers { result ≡ named (Some cabinet) None (cabinet_call (model_of R.ReadRow F.Field C.Cipher self.old) cabinet) }
-        ensures becomes { model_of R.ReadRow F.Field C.Cipher self.new ≡ leaves result (model_of R.ReadRow F.Field C.Cipher self.old) (reach_after (model_of R.ReadRow F.Field C.Cipher self.old) cabinet true) }
+        ensures becomes { let model = model_of R.ReadRow F.Field C.Cipher in model self.new ≡ leaves result (model self.old) (reach_after (model self.old) cabinet true) }
     {
         told(self.plug_fitted(cabinet), Some(cabinet), None)
     }
 
     fn clear_fitted(&mut self, cabinet: usize, file: usize) -> Result<(), SiteCause>
         ensures answers { result ≡ slot_call (model_of R.ReadRow F.Field C.Cipher self.old) cabinet file }
-        ensures becomes { model_of R.ReadRow F.Field C.Cipher self.new ≡ leaves result (model_of R.ReadRow F.Field C.Cipher self.old) (slot_after (model_of R.ReadRow F.Field C.Cipher self.old) cabinet file Empty) }
+        ensures becomes { let model = model_of R.ReadRow F.Field C.Cipher in model self.new ≡ leaves result (model self.old) (slot_after (model self.old) cabinet file Empty) }
     {
-        if cabinet >= self.plan.fitted() {
-            return Err(SiteCause::NoCabinet);
-        }
-        if file >= 8 {
-            return Err(SiteCause::NoFile);
-        }
+        self.check_slot(cabinet, file)?;
         self.row.clear(cabinet, file)?;
         Ok(())
     }
@@ -71,21 +63,16 @@ impl<R: Row, C: Cipher, F: Field> Site<R, C, F> {
     // lacks.
     pub fn clear(&mut self, cabinet: usize, file: usize) -> Result<(), SiteFault>
         ensures answers { result ≡ named (Some cabinet) (Some file) (slot_call (model_of R.ReadRow F.Field C.Cipher self.old) cabinet file) }
-        ensures becomes { model_of R.ReadRow F.Field C.Cipher self.new ≡ leaves result (model_of R.ReadRow F.Field C.Cipher self.old) (slot_after (model_of R.ReadRow F.Field C.Cipher self.old) cabinet file Empty) }
+        ensures becomes { let model = model_of R.ReadRow F.Field C.Cipher in model self.new ≡ leaves result (model self.old) (slot_after (model self.old) cabinet file Empty) }
     {
         told(self.clear_fitted(cabinet, file), Some(cabinet), Some(file))
     }
 
     fn condemn_fitted(&mut self, cabinet: usize, file: usize) -> Result<(), SiteCause>
         ensures answers { result ≡ slot_call (model_of R.ReadRow F.Field C.Cipher self.old) cabinet file }
-        ensures becomes { model_of R.ReadRow F.Field C.Cipher self.new ≡ leaves result (model_of R.ReadRow F.Field C.Cipher self.old) (slot_after (model_of R.ReadRow F.Field C.Cipher self.old) cabinet file Condemned) }
+        ensures becomes { let model = model_of R.ReadRow F.Field C.Cipher in model self.new ≡ leaves result (model self.old) (slot_after (model self.old) cabinet file Condemned) }
     {
-        if cabinet >= self.plan.fitted() {
-            return Err(SiteCause::NoCabinet);
-        }
-        if file >= 8 {
-            return Err(SiteCause::NoFile);
-        }
+        self.check_slot(cabinet, file)?;
         self.row.condemn(cabinet, file)?;
         Ok(())
     }
@@ -93,7 +80,7 @@ impl<R: Row, C: Cipher, F: Field> Site<R, C, F> {
     // Condemns a slot, in reach or not. Refuses as `clear` does.
     pub fn condemn(&mut self, cabinet: usize, file: usize) -> Result<(), SiteFault>
         ensures answers { result ≡ named (Some cabinet) (Some file) (slot_call (model_of R.ReadRow F.Field C.Cipher self.old) cabinet file) }
-        ensures becomes { model_of R.ReadRow F.Field C.Cipher self.new ≡ leaves result (model_of R.ReadRow F.Field C.Cipher self.old) (slot_after (model_of R.ReadRow F.Field C.Cipher self.old) cabinet file Condemned) }
+        ensures becomes { let model = model_of R.ReadRow F.Field C.Cipher in model self.new ≡ leaves result (model self.old) (slot_after (model self.old) cabinet file Condemned) }
     {
         told(
             self.condemn_fitted(cabinet, file),
@@ -104,11 +91,9 @@ impl<R: Row, C: Cipher, F: Field> Site<R, C, F> {
 
     fn swap_fitted(&mut self, cabinet: usize) -> Result<Order, SiteCause>
         ensures answers { result ≡ swap_answer (model_of R.ReadRow F.Field C.Cipher self.old) cabinet }
-        ensures becomes { model_of R.ReadRow F.Field C.Cipher self.new ≡ leaves result (model_of R.ReadRow F.Field C.Cipher self.old) (swap_after (model_of R.ReadRow F.Field C.Cipher self.old) cabinet) }
+        ensures becomes { let model = model_of R.ReadRow F.Field C.Cipher in model self.new ≡ leaves result (model self.old) (swap_after (model self.old) cabinet) }
     {
-        if cabinet >= self.plan.fitted() {
-            return Err(SiteCause::NoCabinet);
-        }
+        self.check_cabinet(cabinet)?;
         self.row.swap(cabinet)?;
         self.marks[cabinet] = true;
         Ok(Order::for_cabinet(cabinet))
@@ -118,7 +103,7 @@ impl<R: Row, C: Cipher, F: Field> Site<R, C, F> {
     // does.
     pub fn swap(&mut self, cabinet: usize) -> Result<Order, SiteFault>
         ensures answers { result ≡ named (Some cabinet) None (swap_answer (model_of R.ReadRow F.Field C.Cipher self.old) cabinet) }
-        ensures becomes { model_of R.ReadRow F.Field C.Cipher self.new ≡ leaves result (model_of R.ReadRow F.Field C.Cipher self.old) (swap_after (model_of R.ReadRow F.Field C.Cipher self.old) cabinet) }
+        ensures becomes { let model = model_of R.ReadRow F.Field C.Cipher in model self.new ≡ leaves result (model self.old) (swap_after (model self.old) cabinet) }
     {
         told(self.swap_fitted(cabinet), Some(cabinet), None)
     }
@@ -126,9 +111,7 @@ impl<R: Row, C: Cipher, F: Field> Site<R, C, F> {
     fn resume_marked(&self, cabinet: usize) -> Result<Order, SiteCause>
         ensures { result ≡ resume_answer (model_of R.ReadRow F.Field C.Cipher self.now) cabinet }
     {
-        if cabinet >= self.plan.fitted() {
-            return Err(SiteCause::NoCabinet);
-        }
+        self.check_cabinet(cabinet)?;
         if !self.marks[cabinet] {
             return Err(SiteCause::MarkClosed);
         }

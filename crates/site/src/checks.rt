@@ -1,7 +1,9 @@
 // What the calls look at first.
-ghost use Rattle.std.specs.Prelude.{◌≡◌, Ok};
+ghost use Rattle.std.specs.Prelude.{◌≡◌, ◌<◌, IfOk, Ok, nat_le};
+ghost use Rattle.base.specs.Answers.{refuse};
+ghost use Rattle.site.specs.declared.fault.SiteCause.TheVariants.{NoFile};
 ghost use Rattle.site.specs.Model.{due_for, kept};
-ghost use Rattle.site.specs.Calls.{of_current};
+ghost use Rattle.site.specs.Calls.{of_current, of_fitted};
 ghost use Rattle.site.specs.Whole.{fitting_of, model_of};
 
 use crate::fault::SiteCause;
@@ -13,14 +15,43 @@ use cipher::Cipher;
 use erasure::{Head, record_length};
 use rows::row::Row;
 
+// Refuses a file that is not there. That it is below 8 stays a clause: a number of a type of its own would be unpacked in each of them.
+pub(crate) fn check_file(file: usize) -> Result<(), SiteCause>
+    ensures answers { result ≡ refuse (nat_le 8 file) NoFile (Ok tt) }
+    ensures there { IfOk result (λ _. file < 8) }
+{
+    if file < 8 {
+        Ok(())
+    } else {
+        Err(SiteCause::NoFile)
+    }
+}
+
 impl<R: Row, C: Cipher, F: Field> Site<R, C, F> {
+    // Refuses a cabinet that is not fitted.
+    pub(crate) fn check_cabinet(&self, cabinet: usize) -> Result<(), SiteCause>
+        ensures { result ≡ of_fitted (model_of R.ReadRow F.Field C.Cipher self.now) cabinet (Ok tt) }
+    {
+        if cabinet < self.plan.fitted() {
+            Ok(())
+        } else {
+            Err(SiteCause::NoCabinet)
+        }
+    }
+
+    // The same, and then a file that is not there.
+    pub(crate) fn check_slot(&self, cabinet: usize, file: usize) -> Result<(), SiteCause>
+        ensures { result ≡ of_fitted (model_of R.ReadRow F.Field C.Cipher self.now) cabinet (refuse (nat_le 8 file) NoFile (Ok tt)) }
+    {
+        self.check_cabinet(cabinet)?;
+        check_file(file)
+    }
+
     // What is kept of a file that can be got.
     pub(crate) fn current(&self, file: usize) -> Result<Kept, SiteCause>
-        ensures { result ≡ of_current (model_of R.ReadRow F.Field C.Cipher self.now) file (Ok (kept (model_of R.ReadRow F.Field C.Cipher self.now) file)) }
+        ensures { let model = model_of R.ReadRow F.Field C.Cipher in result ≡ of_current (model self.now) file (Ok (kept (model self.now) file)) }
     {
-        if file >= 8 {
-            return Err(SiteCause::NoFile);
-        }
+        check_file(file)?;
         if !self.files[file].current {
             return Err(SiteCause::NotCurrent);
         }

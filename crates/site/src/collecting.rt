@@ -1,5 +1,5 @@
 // The records that a file is restored from.
-ghost use Rattle.std.specs.Prelude.{◌≡◌, ◌<◌, ◌≤◌, length, take, IfOk};
+ghost use Rattle.std.specs.Prelude.{◌≡◌, ◌<◌, IfOk};
 ghost use Rattle.base.specs.Bytes.{over};
 ghost use Rattle.site.specs.Model.{kept, positions, records};
 ghost use Rattle.site.specs.Steps.{ended, enough};
@@ -10,40 +10,39 @@ use crate::files::Kept;
 use crate::site::Site;
 use algebra::Field;
 use cipher::Cipher;
+use memory::LEAST;
 use rows::row::Row;
-use standing::{gather, lowest_standing, survey_of};
+use standing::{Lowest, gather, lowest_standing, survey_of};
 
 impl<R: Row, C: Cipher, F: Field> Site<R, C, F> {
-    // Reads the records of the k lowest cabinets that stand for a file, end to end into the front of a buffer, and answers the
-    // cabinets' numbers; what is kept of the file is passed along. Refuses where fewer stand.
+    // Reads the records of the k lowest cabinets that stand for a file, end to end into the front of a buffer, and answers
+    // these cabinets; what is kept of the file is passed along, since a struct of both could not say whose site keeps it. Refuses where fewer stand.
     pub(crate) fn collect(
         &self,
         file: usize,
         last: Kept,
-        out: &mut [u8],
-    ) -> Result<[u8; 16], SiteCause>
+        out: &mut [u8; LEAST],
+    ) -> Result<Lowest, SiteCause>
         requires there { file < 8 }
         requires same { last ≡ kept (model_of R.ReadRow F.Field C.Cipher self.now) file }
-        requires room { 6400 ≤ length out.old }
         ensures answers { ended result ≡ enough (model_of R.ReadRow F.Field C.Cipher self.now) file }
-        ensures positions { IfOk result (λ ps. take self.now.plan.k ps ≡ positions (model_of R.ReadRow F.Field C.Cipher self.now) file) }
+        ensures positions { IfOk result (λ ps. ps ≡ positions (model_of R.ReadRow F.Field C.Cipher self.now) file) }
         ensures records { IfOk result (λ ps. out.new ≡ over (records (model_of R.ReadRow F.Field C.Cipher self.now) file) out.old) }
-        ensures long { length out.new ≡ length out.old }
     {
         let k = self.plan.needed();
         let n = self.plan.fitted();
         let due = self.due(last);
         let lowest = lowest_standing(&self.row, k, n, file, due);
-        if lowest.found < k {
+        if lowest.positions().len() < k {
             return Err(SiteCause::TooFew(survey_of(&self.row, n, file, due).absent));
         }
         gather(
             &self.row,
             file,
-            &lowest.positions[0..k],
+            lowest.positions(),
             usize::from(due.whole),
             out,
         );
-        Ok(lowest.positions)
+        Ok(lowest)
     }
 }

@@ -4,7 +4,7 @@ ghost use Rattle.site.specs.Faults.{site_layer, site_number};
 
 use aont::SealFault;
 use erasure::SliceFault;
-use rows::fault::RowFault;
+use rows::fault::{Cause, Fault, RowFault};
 use standing::Absent;
 
 // Why a site refuses a call. A fault of a lower layer is inside, whole.
@@ -32,13 +32,8 @@ pub enum SiteCause {
     MarkClosed,
 }
 
-// A refusal of a site: its cause, and the cabinet and the file that the call named, if it named any.
-#[derive(Clone, Copy, PartialEq, Eq, Debug)]
-pub struct SiteFault {
-    pub cause: SiteCause,
-    pub cabinet: Option<usize>,
-    pub file: Option<usize>,
-}
+// A refusal of a site.
+pub type SiteFault = Fault<SiteCause>;
 
 impl From<RowFault> for SiteCause {
     ghost from_gives = { λ f s. s ≡ Row f };
@@ -64,12 +59,14 @@ impl From<SealFault> for SiteCause {
     }
 }
 
-impl SiteFault {
-    // The number of the refusal; one of a lower layer keeps its own.
-    pub fn number(self) -> u16
-        ensures { result ≡ site_number self.cause }
-    {
-        match self.cause {
+// A fault of a lower layer keeps its own number and layer: 1 rows, 2 slices, 3 sealing, 4 the site.
+impl Cause for SiteCause {
+    ghost number_of = { site_number };
+
+    ghost layer_of = { site_layer };
+
+    fn number(self) -> u16 {
+        match self {
             SiteCause::Row(fault) => fault.number(),
             SiteCause::Slice(fault) => fault.number(),
             SiteCause::Seal(fault) => fault.number(),
@@ -85,12 +82,9 @@ impl SiteFault {
         }
     }
 
-    // The layer that refused: 1 rows, 2 slices, 3 sealing, 4 the site.
-    pub fn layer(self) -> u8
-        ensures { result ≡ site_layer self.cause }
-    {
-        match self.cause {
-            SiteCause::Row(_) => 1,
+    fn layer(self) -> u8 {
+        match self {
+            SiteCause::Row(fault) => fault.layer(),
             SiteCause::Slice(_) => 2,
             SiteCause::Seal(_) => 3,
             _ => 4,

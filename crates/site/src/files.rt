@@ -5,6 +5,6 @@ pub struct Kept {
     pub last: u16,
     // whether it can be got: it was put, and was not withdrawn since
     pub current: bool,
-    // how many bytes it has, 4,092 at most
+    // how many bytes it has, 4,092 at most; it stands by itself, since a withdrawn file keeps it: `current` does not say if it means anything
     pub size: u16,
 }

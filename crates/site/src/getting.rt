@@ -1,17 +1,16 @@
 // Getting a file.
-ghost use Rattle.std.specs.Prelude.{◌≡◌, ◌<◌, ◌≤◌, length, take, IfOk, Some, None, OnOk};
+ghost use Rattle.std.specs.Prelude.{◌≡◌, ◌<◌, length, take, IfOk, Some, None, OnOk, is_none};
 ghost use Rattle.base.specs.Answers.{leaves};
 ghost use Rattle.base.specs.Bytes.{over};
-ghost use Rattle.memory.specs.Zeros.{short, zeroed};
+ghost use Rattle.memory.specs.Lent.{Wiped, is_short};
 ghost use Rattle.aont.specs.Seals.{unseal_answer, unsealed};
-ghost use Rattle.erasure.specs.Records.{coding};
 ghost use Rattle.recovery.specs.Answers.{join_answer};
 ghost use Rattle.recovery.specs.Formula.{package_from};
 ghost use Rattle.site.specs.Model.{kept};
 ghost use Rattle.site.specs.Calls.{get_answer, got_file};
 ghost use Rattle.site.specs.Faults.{named};
 ghost use Rattle.site.specs.Steps.{opened_answer, restored_answer, sized_answer};
-ghost use Rattle.site.specs.Whole.{model_of};
+ghost use Rattle.site.specs.Whole.{coding_of, model_of};
 
 use crate::fault::{SiteCause, SiteFault};
 use crate::files::Kept;
@@ -20,19 +19,19 @@ use algebra::Field;
 use aont::{SealFault, length_of_package, unseal};
 use cipher::Cipher;
 use erasure::{Plan, SliceFault};
-use memory::{Work, is_short, wipe_all};
+use memory::{Buffers, Work, wipe_all};
 use recovery::join;
 use rows::row::Row;
 
-// Joins a package from records, over the whole of a buffer of just its length.
+// Joins a package from records, over the whole of a buffer of just its length, which is why no Source is taken: it would say the length twice.
 fn join_over<F: Field>(
     plan: &Plan,
     positions: &[u8],
     records: &[u8],
     sealed: &mut [u8],
 ) -> Result<usize, SliceFault>
-    ensures answers { result ≡ join_answer (coding F.ops F.width F.stored F.number plan.now.k) plan.now.n (length sealed.old) positions.now records.now (length sealed.old) }
-    ensures fills { OnOk result (sealed.new ≡ package_from (coding F.ops F.width F.stored F.number plan.now.k) (length sealed.old) positions.now records.now) }
+    ensures answers { result ≡ join_answer (coding_of F.Field plan.now) plan.now.n (length sealed.old) positions.now records.now (length sealed.old) }
+    ensures fills { OnOk result (sealed.new ≡ package_from (coding_of F.Field plan.now) (length sealed.old) positions.now records.now) }
 {
     join::<F>(plan, sealed.len(), positions, records, sealed)
 }
@@ -58,36 +57,36 @@ fn open<C: Cipher, F: Field>(
     sealed: &mut [u8],
     opened: &mut [u8],
 ) -> Result<usize, SiteCause>
-    ensures answers { result ≡ opened_answer (coding F.Field.ops F.Field.width F.Field.stored F.Field.number plan.now.k) plan.now.n C.Cipher.encrypted C.Cipher.number (length sealed.old) positions.now records.now (length opened.old) size }
-    ensures opens { OnOk result (opened.new ≡ over (unsealed C.Cipher.encrypted C.Cipher.number (package_from (coding F.Field.ops F.Field.width F.Field.stored F.Field.number plan.now.k) (length sealed.old) positions.now records.now)) opened.old) }
+    ensures answers { result ≡ opened_answer (coding_of F.Field plan.now) plan.now.n C.Cipher.encrypted C.Cipher.number (length sealed.old) positions.now records.now (length opened.old) size }
+    ensures opens { OnOk result (opened.new ≡ over (unsealed C.Cipher.encrypted C.Cipher.number (package_from (coding_of F.Field plan.now) (length sealed.old) positions.now records.now)) opened.old) }
 {
     join_over::<F>(plan, positions, records, sealed)?;
     unseal_sized::<C>(sealed, size, opened)
 }
 
 impl<R: Row, C: Cipher, F: Field> Site<R, C, F> {
-    // Restores a file, of which this is kept, into the front of a buffer.
+    // Restores a file, of which this is kept, into the front of its buffer.
     fn restore(
         &self,
         file: usize,
         last: Kept,
-        sealed: &mut [u8],
-        records: &mut [u8],
-        opened: &mut [u8],
+        buffers: &mut Buffers<'_>,
     ) -> Result<usize, SiteCause>
         requires there { file < 8 }
         requires same { last ≡ kept (model_of R.ReadRow F.Field C.Cipher self.now) file }
-        requires room { (6400 ≤ length sealed.old) × ((6400 ≤ length records.old) × (6400 ≤ length opened.old)) }
         ensures answers { result ≡ restored_answer (model_of R.ReadRow F.Field C.Cipher self.now) file }
-        ensures restores { IfOk result (λ n. (n ≡ length (got_file (model_of R.ReadRow F.Field C.Cipher self.now) file)) × (take n opened.new ≡ got_file (model_of R.ReadRow F.Field C.Cipher self.now) file)) }
+        ensures restores { let model = model_of R.ReadRow F.Field C.Cipher in IfOk result (λ n. (n ≡ length (got_file (model self.now) file)) × (take n buffers.new.opened.now ≡ got_file (model self.now) file)) }
     {
-        let positions = self.collect(file, last, records)?;
+        let lowest = self.collect(file, last, buffers.records)?;
         let k = self.plan.needed();
         let whole = usize::from(self.due(last).whole);
         let bytes = length_of_package(last.size);
+        let records = &*buffers.records;
+        let sealed = &mut *buffers.sealed;
+        let opened = &mut *buffers.opened;
         open::<C, F>(
             &self.plan,
-            &positions[0..k],
+            lowest.positions(),
             &records[0..k * whole],
             last.size,
             &mut sealed[0..bytes],
@@ -99,22 +98,20 @@ impl<R: Row, C: Cipher, F: Field> Site<R, C, F> {
         &self,
         file: usize,
         out: &mut [u8],
-        sealed: &mut [u8],
-        spread: usize,
-        records: &mut [u8],
-        opened: &mut [u8],
+        buffers: Option<&mut Buffers<'_>>,
     ) -> Result<usize, SiteCause>
-        ensures answers { result ≡ get_answer (model_of R.ReadRow F.Field C.Cipher self.now) file (length out.old) (short (length sealed.old) spread (length records.old) (length opened.old)) }
+        ensures answers { result ≡ get_answer (model_of R.ReadRow F.Field C.Cipher self.now) file (length out.old) (is_none buffers.entry) }
         ensures fills { out.new ≡ leaves result out.old (over (got_file (model_of R.ReadRow F.Field C.Cipher self.now) file) out.old) }
     {
         let last = self.current(file)?;
-        if is_short(sealed.len(), spread, records.len(), opened.len()) {
+        let Some(buffers) = buffers else {
             return Err(SiteCause::MemoryShort);
-        }
+        };
         if out.len() < usize::from(last.size) {
             return Err(SiteCause::OutputShort);
         }
-        let size = self.restore(file, last, sealed, records, opened)?;
+        let size = self.restore(file, last, buffers)?;
+        let opened = &*buffers.opened;
         out[0..size].copy_from_slice(&opened[0..size]);
         Ok(size)
     }
@@ -124,12 +121,9 @@ impl<R: Row, C: Cipher, F: Field> Site<R, C, F> {
     // it, their records are those of no package, or the package is that of no file of that length, in that order. The working
     // memory is zero afterwards.
     pub fn get(&self, file: usize, out: &mut [u8], work: Work<'_>) -> Result<usize, SiteFault>
-        ensures answers { result ≡ named None (Some file) (get_answer (model_of R.ReadRow F.Field C.Cipher self.now) file (length out.old) (short (length work.entry.sealed.now) (length work.entry.spread.now) (length work.entry.records.now) (length work.entry.opened.now))) }
+        ensures answers { result ≡ named None (Some file) (get_answer (model_of R.ReadRow F.Field C.Cipher self.now) file (length out.old) (is_short work.entry)) }
         ensures fills { out.new ≡ leaves result out.old (over (got_file (model_of R.ReadRow F.Field C.Cipher self.now) file) out.old) }
-        ensures sealed { work.exit.0.now ≡ zeroed work.entry.sealed.now }
-        ensures spread { work.exit.1.0.now ≡ zeroed work.entry.spread.now }
-        ensures records { work.exit.1.1.0.now ≡ zeroed work.entry.records.now }
-        ensures opened { work.exit.1.1.1.0.now ≡ zeroed work.entry.opened.now }
+        ensures wiped { Wiped work.entry work.exit }
     {
         let Work {
             sealed,
@@ -137,7 +131,8 @@ impl<R: Row, C: Cipher, F: Field> Site<R, C, F> {
             records,
             opened,
         } = work;
-        let answer = self.get_in(file, out, sealed, spread.len(), records, opened);
+        let mut buffers = Buffers::of(sealed, spread, records, opened);
+        let answer = self.get_in(file, out, buffers.as_mut());
         wipe_all(sealed, spread, records, opened);
         told(answer, None, Some(file))
     }

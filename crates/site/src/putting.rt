@@ -1,19 +1,21 @@
 // Putting a file.
-ghost use Rattle.std.specs.Prelude.{◌≡◌, ◌<◌, ◌≤◌, true, false, ◌&&◌, length, IfOk, Some, None, nat_lt};
+ghost use Rattle.std.specs.Prelude.{◌≡◌, ◌<◌, ◌≤◌, true, false, ◌&&◌, length, IfOk, Some, None, is_none, nat_lt};
 ghost use Rattle.base.specs.Answers.{leaves};
 ghost use Rattle.base.specs.Bytes.{Bytes, over};
 ghost use Rattle.base.specs.Sizes.{misfit};
-ghost use Rattle.memory.specs.Zeros.{short, zeroed};
+ghost use Rattle.memory.specs.Lent.{Wiped, is_short};
 ghost use Rattle.aont.specs.Package.{package_length, sealed};
 ghost use Rattle.aont.specs.Seals.{seal_answer};
-ghost use Rattle.erasure.specs.Records.{coding, record_length};
+ghost use Rattle.erasure.specs.Records.{record_length};
 ghost use Rattle.erasure.specs.Formula.{record_from, record_of};
 ghost use Rattle.rows.specs.Model.{Held, with_slot};
 ghost use Rattle.site.specs.Calls.{put_after, put_answer};
 ghost use Rattle.site.specs.Faults.{named};
 ghost use Rattle.site.specs.Model.{code, with_slots};
-ghost use Rattle.site.specs.Whole.{model_of};
+ghost use Rattle.site.specs.Steps.{put_reached, put_sized};
+ghost use Rattle.site.specs.Whole.{coding_of, model_of};
 
+use crate::checks::check_file;
 use crate::fault::{SiteCause, SiteFault};
 use crate::files::Kept;
 use crate::site::{Site, told};
@@ -21,7 +23,7 @@ use algebra::Field;
 use aont::{SealFault, length_of_package, seal, sealed_length};
 use cipher::Cipher;
 use erasure::{Plan, cut_spread, record_length, spread};
-use memory::{Work, is_short, wipe_all};
+use memory::{Buffers, LEAST, Work, wipe_all};
 use rows::row::Row;
 use standing::{Absent, away, in_reach, reached};
 
@@ -34,6 +36,7 @@ fn package_size(key: &[u8], bytes: &[u8]) -> Result<usize, SealFault>
 }
 
 // Writes the record of a cabinet in reach, cut from the slices of a package of so many bytes.
+// Its parameters are those of cut_spread and of a row's write, and no struct: each is passed on as it is, once.
 fn write_at<R: Row, F: Field>(
     row: &mut R,
     cabinet: usize,
@@ -42,16 +45,15 @@ fn write_at<R: Row, F: Field>(
     size: usize,
     slices: &[u8],
     issue: u16,
-    out: &mut [u8],
+    out: &mut [u8; LEAST],
 )
     requires fitted { cabinet < plan.now.n }
     requires near { (R.ReadRow.model row.old).reach cabinet ≡ true }
     requires there { file < 8 }
     requires issued { 1 ≤ issue }
     requires fits { misfit size ≡ false }
-    requires room { record_length (coding F.ops F.width F.stored F.number plan.now.k) size ≤ (R.ReadRow.model row.old).room }
-    requires memory { 6400 ≤ length out.old }
-    ensures { R.ReadRow.model row.new ≡ with_slot (R.ReadRow.model row.old) cabinet file (Held (record_from (coding F.ops F.width F.stored F.number plan.now.k) size slices.now cabinet issue)) }
+    requires room { record_length (coding_of F.Field plan.now) size ≤ (R.ReadRow.model row.old).room }
+    ensures { R.ReadRow.model row.new ≡ with_slot (R.ReadRow.model row.old) cabinet file (Held (record_from (coding_of F.Field plan.now) size slices.now cabinet issue)) }
 {
     if let Ok(whole) = cut_spread::<F>(plan, size, slices, cabinet, issue, out) {
         let _ = row.write(cabinet, file, &out[0..whole]);
@@ -66,14 +68,13 @@ fn write_all<R: Row, F: Field>(
     size: usize,
     slices: &[u8],
     issue: u16,
-    out: &mut [u8],
+    out: &mut [u8; LEAST],
 )
     requires there { file < 8 }
     requires issued { 1 ≤ issue }
     requires fits { misfit size ≡ false }
-    requires room { record_length (coding F.ops F.width F.stored F.number plan.now.k) size ≤ (R.ReadRow.model row.old).room }
-    requires memory { 6400 ≤ length out.old }
-    ensures { R.ReadRow.model row.new ≡ with_slots (R.ReadRow.model row.old) (λ c. nat_lt c plan.now.n && (R.ReadRow.model row.old).reach c) file (λ c. Held (record_from (coding F.ops F.width F.stored F.number plan.now.k) size slices.now c issue)) }
+    requires room { record_length (coding_of F.Field plan.now) size ≤ (R.ReadRow.model row.old).room }
+    ensures { R.ReadRow.model row.new ≡ with_slots (R.ReadRow.model row.old) (λ c. nat_lt c plan.now.n && (R.ReadRow.model row.old).reach c) file (λ c. Held (record_from (coding_of F.Field plan.now) size slices.now c issue)) }
 {
     for c in 0..plan.fitted() {
         if in_reach(row, c) {
@@ -98,14 +99,12 @@ fn seal_and_spread<C: Cipher, F: Field>(
     plan: &Plan,
     key: &[u8],
     bytes: &[u8],
-    package: &mut [u8],
-    slices: &mut [u8],
+    package: &mut [u8; LEAST],
+    slices: &mut [u8; LEAST],
 )
     requires few { length bytes.now ≤ 4092 }
     requires wide { length key.now ≡ 16 }
-    requires sealing { 6400 ≤ length «package».old }
-    requires spreading { 6400 ≤ length slices.old }
-    ensures { (c issue : _) → record_from (coding F.Field.ops F.Field.width F.Field.stored F.Field.number plan.now.k) (package_length (length bytes.now)) slices.new c issue ≡ record_of (coding F.Field.ops F.Field.width F.Field.stored F.Field.number plan.now.k) (sealed C.Cipher.encrypted C.Cipher.number key.now bytes.now) c issue }
+    ensures { (c issue : _) → record_from (coding_of F.Field plan.now) (package_length (length bytes.now)) slices.new c issue ≡ record_of (coding_of F.Field plan.now) (sealed C.Cipher.encrypted C.Cipher.number key.now bytes.now) c issue }
 {
     let size = length_of_package(bytes.len() as u16);
     seal_file::<C>(key, bytes, package);
@@ -124,28 +123,30 @@ impl<R: Row, C: Cipher, F: Field> Site<R, C, F> {
         }
     }
 
-    // How many cabinets would get a record, or the refusal.
-    fn check_put(
+    // The bytes of the package of a file that may be put, or the refusal.
+    fn package_to_put(
         &self,
         file: usize,
         issue: u16,
         key: &[u8],
         bytes: &[u8],
-        is_short: bool,
     ) -> Result<usize, SiteCause>
-        ensures { result ≡ put_answer (model_of R.ReadRow F.Field C.Cipher self.now) file issue (length key.now) (length bytes.now) is_short }
+        ensures answers { result ≡ put_sized (model_of R.ReadRow F.Field C.Cipher self.now) file issue (length key.now) (length bytes.now) }
+        ensures fits { IfOk result (λ size. misfit size ≡ false) }
     {
-        if file >= 8 {
-            return Err(SiteCause::NoFile);
-        }
+        check_file(file)?;
         let last = self.files[file].last;
         if issue <= last {
             return Err(SiteCause::IssueOld(last));
         }
-        let size = package_size(key, bytes)?;
-        if is_short {
-            return Err(SiteCause::MemoryShort);
-        }
+        Ok(package_size(key, bytes)?)
+    }
+
+    // How many cabinets would get a record of a package of so many bytes, or the refusal.
+    fn cabinets_to_put(&self, size: usize) -> Result<usize, SiteCause>
+        requires { misfit size ≡ false }
+        ensures { result ≡ put_reached (model_of R.ReadRow F.Field C.Cipher self.now) size }
+    {
         if self.lacks_room(size) {
             return Err(SiteCause::RoomShort);
         }
@@ -169,31 +170,26 @@ impl<R: Row, C: Cipher, F: Field> Site<R, C, F> {
         issue: u16,
         key: &[u8],
         bytes: &[u8],
-        package: &mut [u8],
-        slices: &mut [u8],
-        out: &mut [u8],
+        buffers: &mut Buffers<'_>,
     )
         requires there { file < 8 }
         requires issued { 1 ≤ issue }
         requires few { length bytes.now ≤ 4092 }
         requires wide { length key.now ≡ 16 }
         requires room { record_length (code (model_of R.ReadRow F.Field C.Cipher self.old)) (package_length (length bytes.now)) ≤ (R.ReadRow.model self.old.row).room }
-        requires sealing { 6400 ≤ length «package».old }
-        requires spreading { 6400 ≤ length slices.old }
-        requires cutting { 6400 ≤ length out.old }
-        ensures { model_of R.ReadRow F.Field C.Cipher self.new ≡ put_after (model_of R.ReadRow F.Field C.Cipher self.old) file issue key.now bytes.now }
+        ensures { let model = model_of R.ReadRow F.Field C.Cipher in model self.new ≡ put_after (model self.old) file issue key.now bytes.now }
     {
         let plan = self.plan;
-        seal_and_spread::<C, F>(&plan, key, bytes, package, slices);
+        seal_and_spread::<C, F>(&plan, key, bytes, buffers.sealed, buffers.spread);
         let size = bytes.len() as u16;
         write_all::<R, F>(
             &mut self.row,
             file,
             &plan,
             length_of_package(size),
-            slices,
+            buffers.spread,
             issue,
-            out,
+            buffers.records,
         );
         self.files[file] = Kept {
             last: issue,
@@ -202,26 +198,22 @@ impl<R: Row, C: Cipher, F: Field> Site<R, C, F> {
         };
     }
 
-    // The call, with its working memory in parts.
+    // The call, with the working memory that is long enough, if it is.
     fn put_in(
         &mut self,
         file: usize,
         issue: u16,
         key: &[u8],
         bytes: &[u8],
-        is_short: bool,
-        package: &mut [u8],
-        slices: &mut [u8],
-        out: &mut [u8],
+        mut buffers: Option<Buffers<'_>>,
     ) -> Result<usize, SiteCause>
-        requires sealing { is_short ≡ false → 6400 ≤ length «package».old }
-        requires spreading { is_short ≡ false → 6400 ≤ length slices.old }
-        requires cutting { is_short ≡ false → 6400 ≤ length out.old }
-        ensures answers { result ≡ put_answer (model_of R.ReadRow F.Field C.Cipher self.old) file issue (length key.now) (length bytes.now) is_short }
-        ensures becomes { model_of R.ReadRow F.Field C.Cipher self.new ≡ leaves result (model_of R.ReadRow F.Field C.Cipher self.old) (put_after (model_of R.ReadRow F.Field C.Cipher self.old) file issue key.now bytes.now) }
+        ensures answers { result ≡ put_answer (model_of R.ReadRow F.Field C.Cipher self.old) file issue (length key.now) (length bytes.now) (is_none buffers.entry) }
+        ensures becomes { let model = model_of R.ReadRow F.Field C.Cipher in model self.new ≡ leaves result (model self.old) (put_after (model self.old) file issue key.now bytes.now) }
     {
-        let near = self.check_put(file, issue, key, bytes, is_short)?;
-        self.write_file(file, issue, key, bytes, package, slices, out);
+        let size = self.package_to_put(file, issue, key, bytes)?;
+        let buffers = buffers.as_mut().ok_or(SiteCause::MemoryShort)?;
+        let near = self.cabinets_to_put(size)?;
+        self.write_file(file, issue, key, bytes, buffers);
         Ok(near)
     }
 
@@ -237,12 +229,9 @@ impl<R: Row, C: Cipher, F: Field> Site<R, C, F> {
         bytes: &[u8],
         work: Work<'_>,
     ) -> Result<usize, SiteFault>
-        ensures answers { result ≡ named None (Some file) (put_answer (model_of R.ReadRow F.Field C.Cipher self.old) file issue (length key.now) (length bytes.now) (short (length work.entry.sealed.now) (length work.entry.spread.now) (length work.entry.records.now) (length work.entry.opened.now))) }
-        ensures becomes { model_of R.ReadRow F.Field C.Cipher self.new ≡ leaves result (model_of R.ReadRow F.Field C.Cipher self.old) (put_after (model_of R.ReadRow F.Field C.Cipher self.old) file issue key.now bytes.now) }
-        ensures sealed { work.exit.0.now ≡ zeroed work.entry.sealed.now }
-        ensures spread { work.exit.1.0.now ≡ zeroed work.entry.spread.now }
-        ensures records { work.exit.1.1.0.now ≡ zeroed work.entry.records.now }
-        ensures opened { work.exit.1.1.1.0.now ≡ zeroed work.entry.opened.now }
+        ensures answers { result ≡ named None (Some file) (put_answer (model_of R.ReadRow F.Field C.Cipher self.old) file issue (length key.now) (length bytes.now) (is_short work.entry)) }
+        ensures becomes { let model = model_of R.ReadRow F.Field C.Cipher in model self.new ≡ leaves result (model self.old) (put_after (model self.old) file issue key.now bytes.now) }
+        ensures wiped { Wiped work.entry work.exit }
     {
         let Work {
             sealed,
@@ -250,8 +239,8 @@ impl<R: Row, C: Cipher, F: Field> Site<R, C, F> {
             records,
             opened,
         } = work;
-        let short = is_short(sealed.len(), spread.len(), records.len(), opened.len());
-        let answer = self.put_in(file, issue, key, bytes, short, sealed, spread, records);
+        let buffers = Buffers::of(sealed, spread, records, opened);
+        let answer = self.put_in(file, issue, key, bytes, buffers);
         wipe_all(sealed, spread, records, opened);
         told(answer, None, Some(file))
     }

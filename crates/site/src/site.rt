@@ -12,6 +12,7 @@ use erasure::Plan;
 use rows::row::Row;
 use std::marker::PhantomData;
 
+// What a site means is a function in clauses, model_of, and no Model: it has functions among its fields, and a Model's value has none.
 // Eight files in the cabinets of a row: file 0 is the bay map, file 1 the sign table. Of its own a site keeps each file's last
 // issue, currency and length and each cabinet's mark, which is open from a swap until a refill leaves no file; it keeps no key.
 #[derive(Drop)]
@@ -32,14 +33,11 @@ pub(crate) fn told<T>(
 ) -> Result<T, SiteFault>
     ensures { result ≡ named cabinet file answer }
 {
-    match answer {
-        Ok(x) => Ok(x),
-        Err(cause) => Err(SiteFault {
-            cause,
-            cabinet,
-            file,
-        }),
-    }
+    answer.map_err(|cause| SiteFault {
+        cause,
+        cabinet,
+        file,
+    })
 }
 
 // Puts an empty cabinet in the place of each of the first n that the row has.

@@ -1,7 +1,7 @@
 // Withdrawing a file, and telling which cabinets stand for it.
-ghost use Rattle.std.specs.Prelude.{◌≡◌, ◌<◌, ◌&&◌, length, Some, None, nat_lt};
+ghost use Rattle.std.specs.Prelude.{◌≡◌, ◌<◌, ◌&&◌, Some, None, is_none, nat_lt};
 ghost use Rattle.base.specs.Answers.{leaves};
-ghost use Rattle.memory.specs.Zeros.{short, zeroed};
+ghost use Rattle.memory.specs.Lent.{Wiped, is_short};
 ghost use Rattle.rows.specs.Model.{Empty};
 ghost use Rattle.site.specs.Calls.{audit_answer, withdraw_after, withdraw_answer};
 ghost use Rattle.site.specs.Faults.{named};
@@ -12,7 +12,7 @@ use crate::fault::{SiteCause, SiteFault};
 use crate::site::{Site, told};
 use algebra::Field;
 use cipher::Cipher;
-use memory::{Work, is_short, wipe_all};
+use memory::{Buffers, Work, wipe_all};
 use rows::row::Row;
 use standing::{Survey, in_reach, survey_of};
 
@@ -31,7 +31,7 @@ fn clear_all<R: Row>(row: &mut R, n: usize, file: usize)
 impl<R: Row, C: Cipher, F: Field> Site<R, C, F> {
     fn withdraw_current(&mut self, file: usize) -> Result<(), SiteCause>
         ensures answers { result ≡ withdraw_answer (model_of R.ReadRow F.Field C.Cipher self.old) file }
-        ensures becomes { model_of R.ReadRow F.Field C.Cipher self.new ≡ leaves result (model_of R.ReadRow F.Field C.Cipher self.old) (withdraw_after (model_of R.ReadRow F.Field C.Cipher self.old) file) }
+        ensures becomes { let model = model_of R.ReadRow F.Field C.Cipher in model self.new ≡ leaves result (model self.old) (withdraw_after (model self.old) file) }
     {
         self.current(file)?;
         let n = self.plan.fitted();
@@ -44,16 +44,16 @@ impl<R: Row, C: Cipher, F: Field> Site<R, C, F> {
     // reach. Refuses a file that is not there, and then one that is not current.
     pub fn withdraw(&mut self, file: usize) -> Result<(), SiteFault>
         ensures answers { result ≡ named None (Some file) (withdraw_answer (model_of R.ReadRow F.Field C.Cipher self.old) file) }
-        ensures becomes { model_of R.ReadRow F.Field C.Cipher self.new ≡ leaves result (model_of R.ReadRow F.Field C.Cipher self.old) (withdraw_after (model_of R.ReadRow F.Field C.Cipher self.old) file) }
+        ensures becomes { let model = model_of R.ReadRow F.Field C.Cipher in model self.new ≡ leaves result (model self.old) (withdraw_after (model self.old) file) }
     {
         told(self.withdraw_current(file), None, Some(file))
     }
 
-    fn audit_current(&self, file: usize, is_short: bool) -> Result<Survey, SiteCause>
-        ensures { result ≡ audit_answer (model_of R.ReadRow F.Field C.Cipher self.now) file is_short }
+    fn audit_in(&self, file: usize, buffers: Option<Buffers<'_>>) -> Result<Survey, SiteCause>
+        ensures { result ≡ audit_answer (model_of R.ReadRow F.Field C.Cipher self.now) file (is_none buffers.entry) }
     {
         let kept = self.current(file)?;
-        if is_short {
+        if buffers.is_none() {
             return Err(SiteCause::MemoryShort);
         }
         Ok(survey_of(&self.row, self.plan.fitted(), file, self.due(kept)))
@@ -62,11 +62,8 @@ impl<R: Row, C: Cipher, F: Field> Site<R, C, F> {
     // Tells which fitted cabinets stand for a file, and which do not, each under its cause; nothing changes but the working memory,
     // which is zero afterwards. Refuses a file that is not there, one that is not current, and then short working memory.
     pub fn audit(&self, file: usize, work: Work<'_>) -> Result<Survey, SiteFault>
-        ensures answers { result ≡ named None (Some file) (audit_answer (model_of R.ReadRow F.Field C.Cipher self.now) file (short (length work.entry.sealed.now) (length work.entry.spread.now) (length work.entry.records.now) (length work.entry.opened.now))) }
-        ensures sealed { work.exit.0.now ≡ zeroed work.entry.sealed.now }
-        ensures spread { work.exit.1.0.now ≡ zeroed work.entry.spread.now }
-        ensures records { work.exit.1.1.0.now ≡ zeroed work.entry.records.now }
-        ensures opened { work.exit.1.1.1.0.now ≡ zeroed work.entry.opened.now }
+        ensures answers { result ≡ named None (Some file) (audit_answer (model_of R.ReadRow F.Field C.Cipher self.now) file (is_short work.entry)) }
+        ensures wiped { Wiped work.entry work.exit }
     {
         let Work {
             sealed,
@@ -74,8 +71,7 @@ impl<R: Row, C: Cipher, F: Field> Site<R, C, F> {
             records,
             opened,
         } = work;
-        let short = is_short(sealed.len(), spread.len(), records.len(), opened.len());
-        let answer = self.audit_current(file, short);
+        let answer = self.audit_in(file, Buffers::of(sealed, spread, records, opened));
         wipe_all(sealed, spread, records, opened);
         told(answer, None, Some(file))
     }

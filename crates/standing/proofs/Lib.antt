@@ -1,4 +1,5 @@
 pub mod Laws
 pub mod Unread
 pub mod Members
+pub mod Same
 pub mod EndToEnd

@@ -1,5 +1,5 @@
 -- Which cabinets stand for a file, and why the others do not. Assumes nothing.
-use Rattle.std.specs.Prelude.{ℕ, Bool, cond, ◌&&◌, List, length, Some, None, Option, ◌==◌}
+use Rattle.std.specs.Prelude.{ℕ, Bool, true, false, cond, ◌&&◌, List, length, Some, None, Option, ◌==◌}
 use Rattle.base.specs.Bytes.{le_value, part}
 use Rattle.erasure.specs.declared.head.Head.{Head}
 use Rattle.rows.specs.Model as row
@@ -22,16 +22,14 @@ slot_cause due (row.Held bs) = cond (is_due due bs) None (Some Old)
 abbrev pub cause_of : row.RowModel → Head → ℕ → ℕ → Option Cause
 cause_of m due f c = cond (m.reach c) (slot_cause due (m.slot c f)) (Some Away)
 
--- each cause by a number, and standing by 0
-abbrev pub cause_number : Option Cause → ℕ
-cause_number None = 0
-cause_number (Some Away) = 1
-cause_number (Some Condemned) = 2
-cause_number (Some Empty) = 3
-cause_number (Some Old) = 4
-
+-- the same cause, or none twice
 abbrev pub same_cause : Option Cause → Option Cause → Bool
-same_cause a b = cause_number a == cause_number b
+same_cause None None = true
+same_cause (Some Away) (Some Away) = true
+same_cause (Some Condemned) (Some Condemned) = true
+same_cause (Some Empty) (Some Empty) = true
+same_cause (Some Old) (Some Old) = true
+same_cause _ _ = false
 
 -- cabinet c stands
 abbrev pub stands : row.RowModel → Head → ℕ → ℕ → Bool

@@ -1,6 +1,6 @@
 ghost use Rattle.std.specs.Prelude.{◌≡◌, true};
 ghost use Rattle.standing.specs.Unread.{unread_cause};
-ghost use Rattle.standing.specs.Standing.{cause_number, cause_of, is_due, same_cause, slot_cause};
+ghost use Rattle.standing.specs.Standing.{cause_of, is_due, slot_cause};
 
 use erasure::Head;
 use rows::fault::{RowCause, RowFault};
@@ -15,24 +15,6 @@ pub enum Cause {
     Empty,
     // the slot holds another record than the one that is due
     Old,
-}
-
-fn cause_number(cause: Option<Cause>) -> u8
-    ensures { result ≡ cause_number cause }
-{
-    match cause {
-        None => 0,
-        Some(Cause::Away) => 1,
-        Some(Cause::Condemned) => 2,
-        Some(Cause::Empty) => 3,
-        Some(Cause::Old) => 4,
-    }
-}
-
-pub(crate) fn is_same(a: Option<Cause>, b: Option<Cause>) -> bool
-    ensures { result ≡ same_cause a b }
-{
-    cause_number(a) == cause_number(b)
 }
 
 // Whether a record is the one that is due: its length is, and its head.

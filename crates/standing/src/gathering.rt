@@ -25,8 +25,9 @@ pub fn gather<R: ReadRow>(row: &R, file: usize, positions: &[u8], stride: usize,
     if !fits(positions.len(), stride, out.len()) {
         return;
     }
-    for i in 0..positions.len() {
+    for (i, position) in positions.iter().enumerate() {
+        // by places: after a loop over chunks_exact_mut a proof knows nothing of what stands in the chunks
         let at = i * stride;
-        let _ = row.read(usize::from(positions[i]), file, &mut out[at..at + stride]);
+        let _ = row.read(usize::from(*position), file, &mut out[at..at + stride]);
     }
 }

@@ -10,4 +10,4 @@ pub mod sets;
 pub use crate::cause::{Cause, cause_at, in_reach};
 pub use crate::gathering::gather;
 pub use crate::lowest::{Lowest, lowest_standing};
-pub use crate::sets::{Absent, Survey, away, reached, survey_of};
+pub use crate::sets::{Absent, Survey, away, reached, survey_of, with_member};

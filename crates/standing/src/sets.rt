@@ -1,7 +1,7 @@
 ghost use Rattle.std.specs.Prelude.{◌≡◌, ◌+◌, ◌^◌, ◌<◌, min, if◌then◌else◌};
 ghost use Rattle.standing.specs.Sets.{away_of, count_of, survey_of};
 
-use crate::cause::{Cause, cause_at, in_reach, is_same};
+use crate::cause::{Cause, cause_at, in_reach};
 use erasure::Head;
 use rows::row::ReadRow;
 
@@ -32,12 +32,15 @@ const NONE: Survey = Survey {
     },
 };
 
-// A set of cabinets below this one, with this one too or without it.
-fn with_member(set: u16, cabinet: usize, is_in: bool) -> u16
-    requires { (cabinet < 16) × (set < 2 ^ cabinet) }
-    ensures { result ≡ set + (if is_in then 2 ^ cabinet else 0) }
+// A set of numbers below this one, with this one too or without it; 16 and above are in no set.
+pub fn with_member(set: u16, member: usize, is_in: bool) -> u16
+    ensures { member < 16 → set < 2 ^ member → result ≡ set + (if is_in then 2 ^ member else 0) }
 {
-    if is_in { set + (1 << cabinet) } else { set }
+    if is_in && member < 16 {
+        set | 1 << member
+    } else {
+        set
+    }
 }
 
 // A survey of the cabinets below this one, with this one too.
@@ -55,16 +58,12 @@ fn with_cabinet<R: ReadRow>(
     let cause = cause_at(row, cabinet, file, due);
     let absent = survey.absent;
     Survey {
-        standing: with_member(survey.standing, cabinet, is_same(cause, None)),
+        standing: with_member(survey.standing, cabinet, cause.is_none()),
         absent: Absent {
-            away: with_member(absent.away, cabinet, is_same(cause, Some(Cause::Away))),
-            condemned: with_member(
-                absent.condemned,
-                cabinet,
-                is_same(cause, Some(Cause::Condemned)),
-            ),
-            empty: with_member(absent.empty, cabinet, is_same(cause, Some(Cause::Empty))),
-            old: with_member(absent.old, cabinet, is_same(cause, Some(Cause::Old))),
+            away: with_member(absent.away, cabinet, cause == Some(Cause::Away)),
+            condemned: with_member(absent.condemned, cabinet, cause == Some(Cause::Condemned)),
+            empty: with_member(absent.empty, cabinet, cause == Some(Cause::Empty)),
+            old: with_member(absent.old, cabinet, cause == Some(Cause::Old)),
         },
     }
 }
@@ -85,6 +84,7 @@ pub fn survey_of<R: ReadRow>(row: &R, n: usize, file: usize, due: Head) -> Surve
 pub fn away<R: ReadRow>(row: &R, n: usize) -> u16
     ensures { result ≡ away_of (R.ReadRow.model row.now) (min n 16) }
 {
+    // a loop as survey_of has, and no fold: a fold's closure would have to say of each set that it is below the cabinet
     let mut set = 0;
     for c in 0..n.min(16) {
         set = with_member(set, c, !in_reach(row, c));
@@ -96,11 +96,5 @@ pub fn away<R: ReadRow>(row: &R, n: usize) -> u16
 pub fn reached<R: ReadRow>(row: &R, n: usize) -> usize
     ensures { result ≡ count_of (R.ReadRow.model row.now).reach (min n 16) }
 {
-    let mut count = 0;
-    for c in 0..n.min(16) {
-        if in_reach(row, c) {
-            count += 1;
-        }
-    }
-    count
+    (0..n.min(16)).filter(|&c| in_reach(row, c)).count()
 }

@@ -1,5 +1,5 @@
 use Rattle.std.proofs.Common.{not, ◌&&◌, ltb, sym, arith}
-use Rattle.standing.proofs.Members.{set_below, set_next, set_none}
+use Rattle.standing.proofs.Members.{set_next, set_none}
 use Rattle.site.specs.Model.{fitted, kept, standing}
 use Rattle.site.specs.Whole.{model_of}
 use Rattle.site.proofs.site.Site.left.Goals as goal
@@ -9,15 +9,8 @@ loop-file-init g c =
     let S = model_of g.R.ReadRow g.F.Field g.C.Cipher c.args.self.now in
     sym (set_none (λ f. (kept S f).current && not (ltb c.args.cabinet (fitted S) && standing S f c.args.cabinet)))
 
-pub with_file-left-requires : goal.with_file-left-requires
-with_file-left-requires g c =
-    let S = model_of g.R.ReadRow g.F.Field g.C.Cipher c.args.self.now in (
-      omega (arith, c.loop-file-test.true),
-      set_below (λ f. (kept S f).current && not (ltb c.args.cabinet (fitted S) && standing S f c.args.cabinet)) c.loop-file.file c.loop-file.left c.loop-file.invariant,
-    )
-
 pub loop-file-preserved : goal.loop-file-preserved
 loop-file-preserved g c =
     let S = model_of g.R.ReadRow g.F.Field g.C.Cipher c.args.self.now in
-    set_next (λ f. (kept S f).current && not (ltb c.args.cabinet (fitted S) && standing S f c.args.cabinet)) c.loop-file.file c.loop-file.left c.with_file-left.result
-    c.is_left.result c.loop-file.invariant c.is_left.ensures c.with_file-left.ensures
+    set_next (λ f. (kept S f).current && not (ltb c.args.cabinet (fitted S) && standing S f c.args.cabinet)) c.loop-file.file c.loop-file.left c.with_member-left.result
+    c.is_left.result (omega (arith, c.loop-file-test.true)) c.loop-file.invariant c.is_left.ensures c.with_member-left.ensures
