@@ -14,7 +14,7 @@ use rows::row::{ReadRow, Row};
 const MOST: usize = 6400;
 
 // A row of cabinets over lent memory: as many as fit, 16 at most, and each byte of the memory that no call names stands
-// unchanged.
+// unchanged. Its slots are places in that memory, whose layout is published, and no structs: there is no heap.
 #[derive(Drop)]
 pub struct Shelf<'a> {
     memory: &'a mut [u8],
