@@ -1,7 +1,7 @@
 // A row of cabinets over lent memory.
 #![tactic(auto)]
 
-ghost use Rattle.std.specs.Prelude.{◌≡◌, ◌<◌, ◌≤◌, length};
+ghost use Rattle.std.specs.Prelude.{◌≤◌};
 
 mod slot;
 
@@ -14,7 +14,7 @@ use rows::row::{ReadRow, Row};
 const MOST: usize = 6400;
 
 // A row of cabinets over lent memory: as many as fit, 16 at most, and each byte of the memory that no call names stands
-// unchanged.
+// unchanged. Its slots are places in that memory, whose layout is published, and no structs: there is no heap.
 #[derive(Drop)]
 pub struct Shelf<'a> {
     memory: &'a mut [u8],
@@ -26,10 +26,9 @@ pub struct Shelf<'a> {
 impl<'a> Shelf<'a> {
     ghost use Rattle.std.specs.Prelude.{◌≡◌, ◌+◌, ◌<◌, ◌≤◌, length, IfOk, Ok, slice_set, cond};
     ghost use Rattle.base.specs.Answers.{leaves};
-    ghost use Rattle.base.specs.Bytes.{over};
     ghost use Rattle.rows.specs.Calls.{cabinet_answer, of_cabinet, of_slot, slot_answer};
     ghost use Rattle.rows.specs.Model.{with_reach, with_slot};
-    ghost use Rattle.shelf.specs.Layout.{door, fitting, place, room_of, shelf_model, slot_at, with_empty};
+    ghost use Rattle.shelf.specs.Layout.{door, fitting, place, room_of, shelf_model, slot_at, stride};
     ghost use Rattle.shelf.specs.Slots.{Fits, slot_of, with_stored};
     ghost use Rattle.shelf.specs.Shelves.{DoorAt, SameShelf, SlotAt, row_of};
 
@@ -45,12 +44,19 @@ impl<'a> Shelf<'a> {
         }
     }
 
-    // Where a cabinet begins, with its byte of reach.
+    // The bytes of one cabinet: one of reach, and eight slots of a status, a length and the room.
+    fn stride(&self) -> usize
+        ensures { result ≡ stride self.now.room }
+    {
+        1 + 8 * (3 + self.room)
+    }
+
+    // Where a cabinet begins, with its byte of reach, which is 1 in reach.
     fn door(&self, cabinet: usize) -> usize
         requires { cabinet < 16 }
         ensures { result ≡ door self.now.room cabinet }
     {
-        cabinet * (1 + 8 * (3 + self.room))
+        cabinet * self.stride()
     }
 
     // Where a slot begins, with its status.
@@ -146,7 +152,7 @@ impl ReadRow for Shelf<'_> {
     ghost sound = { λ s. shelf_sound s.memory.now s.room s.small };
 
     fn count(&self) -> usize {
-        (self.memory.len() / (1 + 8 * (3 + self.room))).min(16)
+        (self.memory.len() / self.stride()).min(16)
     }
 
     fn room(&self) -> usize {
