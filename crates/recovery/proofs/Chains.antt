@@ -1,9 +1,10 @@
 -- What `all` answers over a chain, as a test at each number, and the chunks of a slice. Assumes nothing.
-use Rattle.std.proofs.Common.{◌≡◌, ℕ, zero, suc, ◌+◌, ◌*◌, ◌/◌, ◌<◌, ◌≤◌, Bool, true, false, not, ◌&&◌, ◌||◌, eqb, List, [], ◌∷◌, ◌++◌, map, length, take, drop, sym, refl, ap, ◌∙◌, zero-add, zero-mul, add-mul, one-mul, add_comm, add-one, arith}
+use Rattle.std.proofs.Common.{◌≡◌, ℕ, zero, suc, ◌+◌, ◌*◌, ◌/◌, ◌<◌, ◌≤◌, Bool, true, false, not, ◌&&◌, ◌||◌, eqb, List, [], ◌∷◌, ◌++◌, map, length, take, drop, get_or, sym, refl, ap, ◌∙◌, ⊎_elim, zero-add, zero-mul, add-mul, one-mul, add_comm, add-one, arith}
 use native.Mathlib.Nat.{add-mul-div_right, div-eq_of_lt}
 use Rattle.std.specs.List.{range_with_len, enumerate_from, list_all, list_any}
 use Rattle.std.specs.Slice.Iter.{chunks_exact_rest, chunks_exact_size, chunks_exact_steps}
 use Rattle.std.proofs.Math.Seq.{take-suc}
+use Rattle.std.proofs.lemmas.Bool.{cases_Bool, true≢false}
 use Rattle.std.proofs.lemmas.Iterator.{YieldsList}
 use Rattle.std.proofs.lemmas.Iterator.Splits.{YieldsList-from_shown_while}
 use Rattle.std.proofs.lemmas.List.{take_at, drop_at, drop-drop, length-append, map-id}
@@ -11,6 +12,7 @@ use Rattle.std.proofs.lemmas.List.Folds.{list_all-append, list_any-append}
 use Rattle.std.proofs.lemmas.List.FromFn.{fill_by_all, get_or-map-range_with_len, length-map-range_with_len, map-range_with_len_more, length-enumerate_from, get_or-enumerate_from}
 use Rattle.base.specs.Bytes.{part}
 use Rattle.base.specs.Tests.{every}
+use Rattle.base.proofs.Every.{every_so, every_at}
 use Rattle.algebra.specs.Polynomials.{at}
 
 and-true : (b : Bool) → (b && true) ≡ b
@@ -80,3 +82,20 @@ none_before xs (suc i) x h =
     ap (λ ys. not (list_any (λ y. eqb y x) ys)) (take-suc xs i 0 (omega arith)) ∙ ap not (list_any-append (λ y. eqb y x) (take i xs) (at xs i ∷ []))
     ∙ neither (list_any (λ y. eqb y x) (take i xs)) (eqb (at xs i) x) ∙ ap (λ b. b && not (eqb (at xs i) x)) (none_before xs i x (omega arith))
     ∙ ap (λ b. every i (λ j. not (eqb x (at xs j))) && not b) (eqb-swap (at xs i) x)
+
+-- the whole chunks of a list, each with its number
+pub all_chunks : (test : ℕ × List ℕ → Bool) (size : ℕ) (xs : List ℕ) → list_all test (enumerate_from 0 (chunks size xs)) ≡ every (length xs / size) (λ i. test (i, chunk size xs i))
+all_chunks test size xs =
+    let n = length xs / size in
+    let long : length (chunks size xs) ≡ n = length-map-range_with_len (chunk size xs) 0 n in
+    ap (list_all test) (fill_by_all (λ i. (i, chunk size xs i)) (enumerate_from 0 (chunks size xs)) n (0, []) (length-enumerate_from 0 (chunks size xs) ∙ long)
+    (λ k h. get_or-enumerate_from 0 (chunks size xs) k (0, []) (omega (arith, long, h)) ∙ ap (λ m. (m, get_or (chunks size xs) k [])) (zero-add k)
+    ∙ ap (λ ys. (k, ys)) (get_or-map-range_with_len (chunk size xs) 0 n k k [] h (zero-add k))))
+    ∙ all_listed test (λ i. (i, chunk size xs i)) n
+
+-- tests at each pair of numbers, whichever goes first
+pub every_swapped : (m n : ℕ) (test : ℕ → ℕ → Bool) → every m (λ j. every n (λ i. test j i)) ≡ every n (λ i. every m (λ j. test j i))
+every_swapped m n test = ⊎_elim
+    (λ t. t ∙ sym (every_so n _ (λ i hi. every_so m _ (λ j hj. every_at n _ (every_at m _ t j hj) i hi))))
+    (λ f. ⊎_elim (λ t. absurd (true≢false (sym (every_so m _ (λ j hj. every_so n _ (λ i hi. every_at m _ (every_at n _ t i hi) j hj))) ∙ f))) (λ g. f ∙ sym g) (cases_Bool (every n (λ i. every m (λ j. test j i)))))
+    (cases_Bool (every m (λ j. every n (λ i. test j i))))

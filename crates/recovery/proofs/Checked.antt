@@ -2,6 +2,7 @@
 use Rattle.std.proofs.Common.{◌≡◌, ℕ, zero, suc, ◌+◌, ◌-◌, ◌*◌, ◌/◌, ◌%◌, ◌^◌, ◌<◌, ◌≤◌, Bool, true, false, cond, not, ◌&&◌, eqb, ltb, List, [], ◌++◌, length, take, drop, replicate, sym, ap, ◌∙◌, subst, ⊎_elim, lt_of_lt_of_le, mul-le-mul_right, mod-lt, add-mul, one-mul, div-add-mod', div-mul-le_self, div-one, arith}
 use Rattle.std.specs.List.{range_with_len, flat_map}
 use Rattle.std.proofs.lemmas.List.{drop-drop, append-nil}
+use Rattle.std.proofs.lemmas.Nat.{le-div}
 use Rattle.std.proofs.lemmas.Bool.{cases_lt, and_parts, eqb-true, not-true, not_from_true}
 use Rattle.base.specs.Bytes.{le_bytes, le_value, part, over}
 use Rattle.base.proofs.Little.{le_value-le_bytes}
@@ -41,6 +42,12 @@ module _ (C : Coding) (bytes : ℕ) (rs : List ℕ) (h : records_fit C bytes rs 
 pub slices_room : (C : Coding) → Widths C.ops C.width C.stored C.number → 1 ≤ C.needed → C.needed ≤ 16 → (bytes m : ℕ) → misfit bytes ≡ false → m ≡ columns C bytes → C.needed * (m * C.stored) ≤ 6400
 slices_room C W low high bytes m fit em =
     subst (λ n. C.needed * (n * C.stored) ≤ 6400) (sym em) (slices_fit C.ops C.width C.stored C.number W C.needed bytes low high (fits bytes fit).2)
+
+-- A package has columns.
+pub columns_some : (C : Coding) → Widths C.ops C.width C.stored C.number → 1 ≤ C.needed → (bytes : ℕ) → misfit bytes ≡ false → 1 ≤ columns C bytes
+columns_some C W low bytes fit =
+    let symbols : 1 ≤ bytes / C.width = le-div 1 bytes C.width (omega (arith, W.least)) (omega (arith, W.most, one-mul C.width, (fits bytes fit).1)) in
+    le-div 1 (bytes / C.width + (C.needed - 1)) C.needed (omega arith) (omega (arith, symbols, one-mul C.needed))
 
 -- What cut answers where records were checked is what rebuild does.
 pub cut_rest : (C : Coding) (n bytes : ℕ) (records : List ℕ) (c issue out : ℕ) → misfit bytes ≡ false → not (ltb c n) ≡ false → not (eqb issue 0) ≡ true → codes_fit C bytes records ≡ true →

@@ -1,7 +1,8 @@
 -- A package that is laid out symbol by symbol, column after column. Assumes nothing.
-use Rattle.std.proofs.Common.{◌≡◌, ℕ, ◌+◌, ◌-◌, ◌*◌, ◌/◌, ◌%◌, ◌<◌, ◌≤◌, min, cond, leb, List, ◌++◌, length, drop, sym, refl, ap, ◌∙◌, subst, ⊎_elim, mod-lt, mul-le-mul_right, div-add-mod', div-mul-le_self, arith}
-use Rattle.std.proofs.lemmas.Bool.{cases_lt, lt-leb}
+use Rattle.std.proofs.Common.{◌≡◌, ℕ, ◌+◌, ◌-◌, ◌*◌, ◌/◌, ◌%◌, ◌<◌, ◌≤◌, min, cond, leb, ltb, List, ◌++◌, length, drop, sym, refl, ap, ◌∙◌, subst, ⊎_elim, mod-lt, mul-le-mul_right, add-mul, one-mul, div-add-mod', div-mul-le_self, arith}
+use Rattle.std.proofs.lemmas.Bool.{cases_lt, lt-leb, lt-ltb, le-ltb}
 use Rattle.std.proofs.lemmas.Nat.{le-div}
+use Rattle.std.proofs.lemmas.Grind.{div_ceil_times}
 use Rattle.base.specs.Bytes.{le_bytes, over, written}
 use Rattle.base.proofs.Pieces.{stored_none, stored_next, stored-end}
 use Rattle.algebra.specs.Slices.{stored_at}
@@ -50,3 +51,13 @@ columns_enough C low pos bytes n h =
     let s = bytes / C.width in
     let less : n / C.width ≤ s = le-div (n / C.width) bytes C.width pos (omega (arith, div-mul-le_self n C.width)) in
     omega (arith, div-add-mod' (s + (C.needed - 1)) C.needed, mod-lt (s + (C.needed - 1)) low)
+
+-- which symbols of slice i are the package's
+pub in_slice : (s k j i : ℕ) → 1 ≤ k → ltb j ((s - i) / k + min 1 ((s - i) % k)) ≡ ltb (j * k + i) s
+in_slice s k j i low =
+    let q = (s - i) / k + min 1 ((s - i) % k) in
+    let t = div_ceil_times (s - i) k low in
+    ⊎_elim
+    (λ l. let here : j < q = ⊎_elim (λ h. h) (λ h. absurd (omega (arith, t.0, mul-le-mul_right k h))) (cases_lt j q) in lt-ltb j q here ∙ sym (lt-ltb (j * k + i) s l))
+    (λ l. let past : q ≤ j = ⊎_elim (λ h. absurd (omega (arith, t.1, mul-le-mul_right k h, add-mul j 1 k, one-mul k))) (λ h. h) (cases_lt j q) in le-ltb j q past ∙ sym (le-ltb (j * k + i) s l))
+    (cases_lt (j * k + i) s)

@@ -1,5 +1,5 @@
 // The checks of records that are to be joined.
-ghost use Rattle.std.specs.Prelude.{◌≡◌, ℕ, ◌+◌, ◌-◌, ◌*◌, ◌/◌, ◌≤◌, true, false, not, ◌&&◌, length, drop, IfOk, Result, ◌==◌, nat_lt};
+ghost use Rattle.std.specs.Prelude.{◌≡◌, ℕ, ◌+◌, ◌-◌, ◌*◌, ◌/◌, ◌<◌, ◌≤◌, true, false, not, ◌&&◌, length, drop, IfOk, Result, ◌==◌, nat_lt};
 ghost use Rattle.base.specs.Answers.{pass};
 ghost use Rattle.base.specs.Sizes.{misfit};
 ghost use Rattle.base.specs.Tests.{every};
@@ -105,6 +105,7 @@ impl<'a, F: Field> Checked<'a, F> {
     // How long each slice of the package is.
     pub(crate) fn slice_length(&self) -> usize
         ensures value { result ≡ columns (coding_of F.Field self.now.plan.now) self.now.bytes * F.stored }
+        ensures some { 0 < result }
         ensures few { self.now.count ≤ result }
         ensures one { result ≤ 6400 }
         ensures all { self.now.plan.now.k * result ≤ 6400 }

@@ -1,11 +1,11 @@
 // A package from its slices: whether they are a package's, and its bytes.
-ghost use Rattle.std.specs.Prelude.{◌≡◌, ◌*◌, ◌/◌, ◌^◌, ◌<◌, ◌≤◌, length, if◌then◌else◌, nat_lt};
+ghost use Rattle.std.specs.Prelude.{◌≡◌, ◌+◌, ◌*◌, ◌/◌, ◌^◌, ◌<◌, ◌≤◌, length, if◌then◌else◌, nat_lt};
 ghost use Rattle.base.specs.Bytes.{over};
 ghost use Rattle.base.specs.Tests.{every};
 ghost use Rattle.algebra.specs.Slices.{stored_at};
 ghost use Rattle.erasure.specs.Records.{columns};
 ghost use Rattle.erasure.specs.Whole.{coding_of};
-ghost use Rattle.recovery.specs.Gathered.{column_whole, slices_whole, gathered};
+ghost use Rattle.recovery.specs.Gathered.{slices_whole, gathered};
 
 use crate::checking::Checked;
 use algebra::Field;
@@ -22,30 +22,28 @@ fn symbol_limit<F: Field>(within: bool) -> u32
     }
 }
 
-fn symbol_fits<F: Field>(slices: &[u8], place: usize, within: bool) -> bool
-    ensures { result ≡ nat_lt (stored_at F.stored slices.now place) (if within then 256 ^ F.width else 1) }
-{
-    le_at(slices, place, F::stored_width()) < symbol_limit::<F>(within)
-}
-
 impl<F: Field> Checked<'_, F> {
-    // Whether column j of the slices is one of the package.
-    fn column_fits(&self, slices: &[u8], j: usize) -> bool
-        requires { j < self.now.count }
-        ensures { result ≡ every self.now.plan.now.k (column_whole (coding_of F.Field self.now.plan.now) (self.now.bytes / F.width) (columns (coding_of F.Field self.now.plan.now) self.now.bytes * F.stored) slices.now j) }
+    // Whether these are numbers of slice i of the package: its symbols, and past the package's end zeros.
+    fn slice_fits(&self, slice: &[u8], i: usize) -> bool
+        ensures { result ≡ every (length slice.now / F.stored) (λ j. nat_lt (stored_at F.stored slice.now (j * F.stored)) (if nat_lt (j * self.now.plan.now.k + i) (self.now.bytes / F.width) then 256 ^ F.width else 1)) }
     {
-        let k = self.plan.needed();
         let symbols = self.bytes / F::data_width();
-        let size = self.slice_length();
-        let place = j * F::stored_width();
-        (0..k).all(|i| symbol_fits::<F>(slices, i * size + place, j * k + i < symbols))
+        let own = symbols.saturating_sub(i).div_ceil(self.plan.needed());
+        let stored = F::stored_width();
+        slice.chunks_exact(stored).enumerate().all(|(j, code)| le_at(code, 0, stored)
+            < symbol_limit::<F>(j < own))
     }
 
     // Whether the slices are those of the package.
     pub(crate) fn slices_fit(&self, slices: &[u8]) -> bool
+        requires { length slices.now ≡ 6400 }
         ensures { result ≡ slices_whole (coding_of F.Field self.now.plan.now) (self.now.bytes / F.width) (columns (coding_of F.Field self.now.plan.now) self.now.bytes) (columns (coding_of F.Field self.now.plan.now) self.now.bytes * F.stored) slices.now }
     {
-        (0..self.count).all(|j| self.column_fits(slices, j))
+        let size = self.slice_length();
+        slices[..self.plan.needed() * size]
+            .chunks_exact(size)
+            .enumerate()
+            .all(|(i, slice)| self.slice_fits(slice, i))
     }
 
     // Writes the package whose slices these are, as much of it as the output has room for.
