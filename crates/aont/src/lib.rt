@@ -12,7 +12,7 @@ use crate::blocks::{bind, block_at, mask_blocks, put};
 pub use crate::fault::SealFault;
 use crate::frame::lay_out;
 pub use crate::lengths::{length_of_package, sealed_length};
-use crate::opening::{file_length, has_canary, key_in, write_file};
+use crate::opening::Opening;
 use base::is_misfit;
 use cipher::Cipher;
 
@@ -56,17 +56,17 @@ fn unseal_tested<C: Cipher>(package: &[u8], out: &mut [u8]) -> Result<usize, Sea
     if is_misfit(package.len()) {
         return Err(SealFault::PackageMisfit);
     }
-    let cipher = C::with_key(&key_in::<C>(package));
-    if !has_canary(&cipher, package) {
+    let opening = Opening::<C>::of(package);
+    if !opening.has_canary() {
         return Err(SealFault::CanaryWrong);
     }
-    let Some(size) = file_length(&cipher, package) else {
+    let Some(size) = opening.file_length() else {
         return Err(SealFault::NoSuchFile);
     };
     if out.len() < size {
         return Err(SealFault::OutputShort);
     }
-    write_file(&cipher, package, size, out);
+    opening.write_file(size, out);
     Ok(size)
 }
 

@@ -1,0 +1,7 @@
+use Rattle.aont.proofs.Sealed.{plain_is}
+use Rattle.aont.proofs.opening.Opening.plain_block.Goals as goal
+
+pub returns : goal.returns
+returns g c =
+    plain_is g.C.Cipher.encrypted c.args.self.now.bytes.now c.args.self.now.fit c.args.i (g.C.Cipher.key c.args.self.now.cipher) c.masked_block.result
+    c.requires c.args.self.now.keyed c.masked_block.ensures
