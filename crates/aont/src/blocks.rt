@@ -1,5 +1,4 @@
-// The transform of blocks. Blocks are numbered from 1, and i is the place of block i + 1 among them. The loops go by i, since a
-// block's number goes into its mask and its hash, and no contract of the library says what a loop over as_chunks_mut leaves.
+// The transform of blocks. Blocks are numbered from 1, and i is the place of block i + 1 among them.
 ghost use Rattle.std.specs.Prelude.{◌≡◌, ◌+◌, ◌*◌, ◌%◌, ◌≤◌, ◌++◌, length, take, drop};
 ghost use Rattle.cipher.specs.Blocks.{xor};
 ghost use Rattle.aont.specs.Package.{block, number_block, masked, bound};
@@ -34,19 +33,17 @@ pub(crate) fn put(bytes: &mut [u8], at: usize, new: &[u8])
 }
 
 // A block with its mask put on or, since that is the same, taken off.
-pub(crate) fn masked_block<C: Cipher>(cipher: &C, bytes: &[u8], i: usize) -> [u8; 16]
-    requires { 16 * i + 16 ≤ length bytes.now }
-    ensures { result ≡ xor (block (i + 1) bytes.now) (C.Cipher.encrypted (C.Cipher.key cipher.now) (number_block (i + 1))) }
+pub(crate) fn masked_block<C: Cipher>(cipher: &C, block: &[u8; 16], number: usize) -> [u8; 16]
+    ensures { result ≡ xor block.now (C.Cipher.encrypted (C.Cipher.key cipher.now) (number_block number)) }
 {
-    xor16(&block_at(bytes, i), &cipher.encrypt(&number_block(i + 1)))
+    xor16(block, &cipher.encrypt(&number_block(number)))
 }
 
-// h(i + 1) of a masked block, under the first key's schedule.
-fn hashed_block<C: Cipher>(cipher: &C, bytes: &[u8], i: usize) -> [u8; 16]
-    requires { 16 * i + 16 ≤ length bytes.now }
-    ensures { result ≡ C.Cipher.encrypted (C.Cipher.key cipher.now) (xor (block (i + 1) bytes.now) (number_block (i + 1))) }
+// The hash of a masked block with its number, under the first key's schedule.
+fn hashed_block<C: Cipher>(cipher: &C, block: &[u8; 16], number: usize) -> [u8; 16]
+    ensures { result ≡ C.Cipher.encrypted (C.Cipher.key cipher.now) (xor block.now (number_block number)) }
 {
-    cipher.encrypt(&xor16(&block_at(bytes, i), &number_block(i + 1)))
+    cipher.encrypt(&xor16(block, &number_block(number)))
 }
 
 // Masks each block in place, under the cipher's key.
@@ -54,8 +51,9 @@ pub(crate) fn mask_blocks<C: Cipher>(cipher: &C, blocks: &mut [u8])
     requires { length blocks.old % 16 ≡ 0 }
     ensures { blocks.new ≡ masked C.Cipher.encrypted (C.Cipher.key cipher.now) blocks.old }
 {
+    // by index: of what is written through as_chunks_mut a proof knows only how long it is
     for i in 0..blocks.len() / 16 {
-        let new = masked_block(cipher, blocks, i);
+        let new = masked_block(cipher, &block_at(blocks, i), i + 1);
         put(blocks, 16 * i, &new);
     }
 }
@@ -66,8 +64,9 @@ pub(crate) fn bind<C: Cipher>(key: [u8; 16], blocks: &[u8]) -> [u8; 16]
 {
     let cipher = C::with_key(&FIRST_KEY);
     let mut sum = key;
-    for i in 0..blocks.len() / 16 {
-        sum = xor16(&sum, &hashed_block(&cipher, blocks, i));
+    let (chunks, _) = blocks.as_chunks::<16>();
+    for (i, block) in chunks.iter().enumerate() {
+        sum = xor16(&sum, &hashed_block(&cipher, block, i + 1));
     }
     sum
 }

@@ -46,7 +46,7 @@ impl<'a, C: Cipher> Opening<'a, C> {
         requires { 16 * i + 32 ≤ length self.now.bytes.now }
         ensures { result ≡ block (i + 1) (message_in C.Cipher.encrypted self.now.bytes.now) }
     {
-        masked_block(&self.cipher, self.bytes, i)
+        masked_block(&self.cipher, &block_at(self.bytes, i), i + 1)
     }
 
     // Whether the message ends in the canary.
