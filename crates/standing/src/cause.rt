@@ -21,30 +21,25 @@ pub enum Cause {
 fn is_due(due: Head, bytes: &[u8]) -> bool
     ensures { result ≡ is_due due bytes.now }
 {
-    let head = Head::read(bytes);
-    bytes.len() == usize::from(due.whole)
-        && head.whole == due.whole
-        && head.number == due.number
-        && head.issue == due.issue
+    bytes.len() == usize::from(due.whole) && Head::read(bytes) == due
 }
 
 // Whether a cabinet is in reach; one that the row lacks never is.
 pub fn in_reach<R: ReadRow>(row: &R, cabinet: usize) -> bool
     ensures { result ≡ (R.ReadRow.model row.now).reach cabinet }
 {
-    match row.reach(cabinet) {
-        Ok(near) => near,
-        Err(_) => false,
-    }
+    row.reach(cabinet).unwrap_or(false)
 }
 
 // Why a slot that could not be read does not make its cabinet stand.
-fn unread(fault: RowFault) -> Cause
-    ensures { result ≡ unread_cause fault.cause }
-{
-    match fault.cause {
-        RowCause::Condemned => Cause::Condemned,
-        _ => Cause::Empty,
+impl From<RowFault> for Cause {
+    ghost from_gives = { λ fault cause. cause ≡ unread_cause fault.cause };
+
+    fn from(fault: RowFault) -> Cause {
+        match fault.cause {
+            RowCause::Condemned => Cause::Condemned,
+            _ => Cause::Empty,
+        }
     }
 }
 
@@ -62,7 +57,7 @@ fn slot_cause<R: ReadRow>(row: &R, cabinet: usize, file: usize, due: Head) -> Op
                 Some(Cause::Old)
             }
         }
-        Err(fault) => Some(unread(fault)),
+        Err(fault) => Some(Cause::from(fault)),
     }
 }
 
