@@ -15,6 +15,7 @@ use erasure::{Plan, cut_spread, spread};
 use gf256::Gf256;
 use gf65537::Gf65537;
 
+// The match stands in each call: it names the call's own instance, and no closure is generic in a field.
 fn spread_by(
     field: u32,
     k: usize,

@@ -9,6 +9,7 @@ use aes128::Aes128;
 use aont::{seal, unseal};
 use speck128::Speck128;
 
+// The match stands in each call: it names the call's own instance, and no closure is generic in a cipher.
 fn seal_by(cipher: u32, key: &[u8], file: &[u8], out: &mut [u8]) -> Result<usize, CallFault>
     ensures answers { signed call_number result ≡ seal_call cipher (length key.now) (length file.now) (length out.old) }
     ensures fills { out.new ≡ seal_leaves cipher key.now file.now out.old }

@@ -10,6 +10,7 @@ use gf256::Gf256;
 use gf65537::Gf65537;
 use recovery::join;
 
+// The match stands in each call: it names the call's own instance, and no closure is generic in a field.
 fn cut_by(
     field: u32,
     k: u32,
