@@ -1,5 +1,5 @@
 // The frame of a file: its length and the cipher's number in two bytes each, the file, and zeros up to a whole block.
-ghost use Rattle.std.specs.Prelude.{◌≡◌, ℕ, ◌+◌, ◌*◌, ◌/◌, ◌<◌, ◌≤◌, length, take, replicate, Decides, EachIndex, drop, slice_index};
+ghost use Rattle.std.specs.Prelude.{◌≡◌, ◌+◌, ◌*◌, ◌/◌, ◌<◌, ◌≤◌, length, take, Decides, EachIndex, drop, slice_index};
 ghost use Rattle.std.specs.Str.{bytes_eq};
 ghost use Rattle.base.specs.Bytes.{le_value, over, part};
 ghost use Rattle.aont.specs.Package.{canary, message};

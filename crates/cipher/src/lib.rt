@@ -3,7 +3,7 @@
 #![tactic(auto)]
 
 ghost use Rattle.std.specs.Prelude.{◌≡◌, ℕ, List};
-ghost use Rattle.cipher.specs.Blocks.{Block, CipherLaws, xor};
+ghost use Rattle.cipher.specs.Blocks.{CipherLaws, xor};
 
 use std::array;
 

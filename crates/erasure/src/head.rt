@@ -1,4 +1,4 @@
-// A record's head: six bytes, laid out and read here. Recovery checks the heads of records end to end itself.
+// A record's head: six bytes, laid out and read here.
 ghost use Rattle.std.specs.Prelude.{◌≡◌};
 ghost use Rattle.base.specs.Bytes.{le_value, part};
 ghost use Rattle.erasure.specs.Records.{head};

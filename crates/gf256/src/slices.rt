@@ -1,6 +1,6 @@
 // Sums of weighted slices, bit by bit of the weights from the top down: the sum is doubled, and each slice is added whose
 // weight has the bit. Each step goes over a whole slice, in a loop that the compiler turns into vector code.
-ghost use Rattle.std.specs.Prelude.{◌≡◌, ◌+◌, ◌/◌, ◌<◌, length, ◌==◌};
+ghost use Rattle.std.specs.Prelude.{◌≡◌, ◌/◌, ◌<◌, length, ◌==◌};
 ghost use Rattle.algebra.specs.Slices.{combined};
 ghost use Rattle.base.specs.Bytes.{over};
 ghost use Rattle.binary.specs.Binary.{product};

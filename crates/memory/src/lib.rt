@@ -49,7 +49,8 @@ impl<'a> Buffers<'a> {
     }
 }
 
-// Makes the four buffers zero. They are four and no Work: of a struct that is lent or dropped whole, a caller's proof learns not what is left behind its fields.
+// Makes the four buffers zero. They come one by one, and not as a Work: of a struct that is lent or dropped whole a caller's proof
+// does not learn what is left behind its fields.
 pub fn wipe_all(sealed: &mut [u8], spread: &mut [u8], records: &mut [u8], opened: &mut [u8])
     ensures sealed { sealed.new ≡ zeroed sealed.old }
     ensures spread { spread.new ≡ zeroed spread.old }

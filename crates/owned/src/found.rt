@@ -1,6 +1,6 @@
 // Records of a package that were found, and what they give.
 ghost use Rattle.std.specs.Prelude.{◌≡◌, ◌≤◌, ◌↔◌, [], ◌∷◌, ◌++◌, IsTrue, IfOk, OnOk, vec_len};
-ghost use Rattle.erasure.specs.Records.{coding};
+ghost use Rattle.erasure.specs.Whole.{coding_of};
 ghost use Rattle.recovery.specs.Answers.{join_answer, rebuild_answer};
 ghost use Rattle.recovery.specs.Formula.{package_from, rebuilt};
 ghost use Rattle.owned.specs.Fronts.{front_of_zeros, Gives};
@@ -53,7 +53,7 @@ impl Found {
 
     // The package.
     pub fn join<F: Field>(&self, alloc: Global) -> Result<Result<Vec<u8>, SliceFault>, AllocError>
-        ensures { IfOk result (Gives (front_of_zeros (join_answer (coding F.ops F.width F.stored F.number self.now.plan.k) self.now.plan.n self.now.bytes self.now.positions.items self.now.records.items 4128) (package_from (coding F.ops F.width F.stored F.number self.now.plan.k) self.now.bytes self.now.positions.items self.now.records.items) 4128)) }
+        ensures { IfOk result (Gives (front_of_zeros (join_answer (coding_of F.Field self.now.plan) self.now.plan.n self.now.bytes self.now.positions.items self.now.records.items 4128) (package_from (coding_of F.Field self.now.plan) self.now.bytes self.now.positions.items self.now.records.items) 4128)) }
     {
         let mut output = [0u8; LONGEST_PACKAGE];
         let (positions, records) = (self.positions.as_slice(), self.records.as_slice());
@@ -67,7 +67,7 @@ impl Found {
         alloc: Global,
         cabinet: usize,
     ) -> Result<Result<Vec<u8>, SliceFault>, AllocError>
-        ensures { IfOk result (Gives (front_of_zeros (rebuild_answer (coding F.ops F.width F.stored F.number self.now.plan.k) self.now.plan.n self.now.bytes self.now.positions.items self.now.records.items cabinet 6198) (rebuilt (coding F.ops F.width F.stored F.number self.now.plan.k) self.now.bytes self.now.positions.items self.now.records.items cabinet) 6198)) }
+        ensures { IfOk result (Gives (front_of_zeros (rebuild_answer (coding_of F.Field self.now.plan) self.now.plan.n self.now.bytes self.now.positions.items self.now.records.items cabinet 6198) (rebuilt (coding_of F.Field self.now.plan) self.now.bytes self.now.positions.items self.now.records.items cabinet) 6198)) }
     {
         let mut output = [0u8; LONGEST_RECORD];
         let (positions, records) = (self.positions.as_slice(), self.records.as_slice());

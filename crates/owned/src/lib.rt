@@ -6,7 +6,7 @@ ghost use Rattle.std.specs.Prelude.{◌≡◌, ℕ, ◌*◌, ◌%◌, ◌<◌, I
 ghost use Rattle.aont.specs.Package.{sealed};
 ghost use Rattle.aont.specs.Seals.{seal_answer, unseal_answer, unsealed};
 ghost use Rattle.erasure.specs.Formula.{record_of};
-ghost use Rattle.erasure.specs.Records.{coding};
+ghost use Rattle.erasure.specs.Whole.{coding_of};
 ghost use Rattle.erasure.specs.Slices.{cut_answer};
 ghost use Rattle.owned.specs.Fronts.{front, front_of_zeros, Gives};
 
@@ -30,8 +30,8 @@ const LONGEST_PACKAGE: usize = 4128;
 // No record is longer: that of the longest package whole, in GF(65537).
 const LONGEST_RECORD: usize = 6198;
 
-// As much of an output's front as a call answered that it wrote, or the call's refusal. It is passed what the call left, and not
-// the call as a closure: so tried, the call's own promises did not reach the proofs of those that pass it.
+// As much of an output's front as a call answered that it wrote, or the call's refusal. It takes what the call left, and not the
+// call as a closure, since then the call's own promises do not reach the proofs of those that pass it.
 pub fn front<E>(
     alloc: Global,
     output: &[u8],
@@ -82,7 +82,7 @@ pub fn cut<F: Field>(
     cabinet: usize,
     issue: u16,
 ) -> Result<Result<Vec<u8>, SliceFault>, AllocError>
-    ensures { IfOk result (Gives (front_of_zeros (cut_answer (coding F.ops F.width F.stored F.number plan.now.k) plan.now.n (length «package».now) cabinet issue 6198) (record_of (coding F.ops F.width F.stored F.number plan.now.k) «package».now cabinet issue) 6198)) }
+    ensures { IfOk result (Gives (front_of_zeros (cut_answer (coding_of F.Field plan.now) plan.now.n (length «package».now) cabinet issue 6198) (record_of (coding_of F.Field plan.now) «package».now cabinet issue) 6198)) }
 {
     let mut output = [0u8; LONGEST_RECORD];
     let answer = erasure::cut::<F>(plan, package, cabinet, issue, &mut output);

@@ -2,14 +2,10 @@
 use Rattle.algebra.specs.declared.field.Field.{Ghosts as Field}
 use Rattle.cipher.specs.declared.Cipher.{Ghosts as Cipher}
 use Rattle.erasure.specs.declared.plan.Plan.{Plan}
-use Rattle.erasure.specs.Records.{Coding, coding}
+use Rattle.erasure.specs.Whole.{coding_of}
 use Rattle.rows.specs.declared.row.ReadRow.{Ghosts as Row}
 use Rattle.site.specs.declared.site.Site.{Site}
 use Rattle.site.specs.Model.{Fitting, SiteModel, site}
-
--- a field as it cuts by a plan
-abbrev pub coding_of : {F : Type 0} → Field F → Plan → Coding
-coding_of field plan = coding field.ops field.width field.stored field.number plan.k
 
 -- a plan, with what a field and a cipher mean
 abbrev pub fitting_of : {F C : Type 0} → Field F → Cipher C → Plan → Fitting

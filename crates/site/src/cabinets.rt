@@ -1,10 +1,10 @@
 // The calls on cabinets.
-ghost use Rattle.std.specs.Prelude.{◌≡◌, true, false, Some, None, Ok};
-ghost use Rattle.base.specs.Answers.{leaves, pass};
+ghost use Rattle.std.specs.Prelude.{◌≡◌, true, false, if◌then◌else◌, Some, None, Ok};
+ghost use Rattle.base.specs.Answers.{leaves};
 ghost use Rattle.rows.specs.Model.{Condemned, Empty};
 ghost use Rattle.site.specs.Faults.{named};
 ghost use Rattle.site.specs.Calls.{cabinet_call, reach_after, slot_after, slot_call, swap_after};
-ghost use Rattle.site.specs.Orders.{order_for, resume_answer, swap_answer};
+ghost use Rattle.site.specs.Orders.{resume_answer, swap_answer};
 ghost use Rattle.site.specs.Whole.{model_of};
 
 use crate::fault::{SiteCause, SiteFault};
@@ -15,13 +15,17 @@ use cipher::Cipher;
 use rows::row::Row;
 
 impl<R: Row, C: Cipher, F: Field> Site<R, C, F> {
-    // pull and plug, and clear and condemn, differ in one call of the row: of a closure's call a clause would say more than they save
-    fn pull_fitted(&mut self, cabinet: usize) -> Result<(), SiteCause>
+    // Takes a cabinet out of reach or puts it there.
+    fn set_reach(&mut self, cabinet: usize, near: bool) -> Result<(), SiteCause>
         ensures answers { result ≡ cabinet_call (model_of R.ReadRow F.Field C.Cipher self.old) cabinet }
-        ensures becomes { let model = model_of R.ReadRow F.Field C.Cipher in model self.new ≡ leaves result (model self.old) (reach_after (model self.old) cabinet false) }
+        ensures becomes { let model = model_of R.ReadRow F.Field C.Cipher in model self.new ≡ leaves result (model self.old) (reach_after (model self.old) cabinet near) }
     {
         self.check_cabinet(cabinet)?;
-        self.row.pull(cabinet)?;
+        if near {
+            self.row.plug(cabinet)?;
+        } else {
+            self.row.pull(cabinet)?;
+        }
         Ok(())
     }
 
@@ -30,16 +34,7 @@ impl<R: Row, C: Cipher, F: Field> Site<R, C, F> {
         ensures answers { result ≡ named (Some cabinet) None (cabinet_call (model_of R.ReadRow F.Field C.Cipher self.old) cabinet) }
         ensures becomes { let model = model_of R.ReadRow F.Field C.Cipher in model self.new ≡ leaves result (model self.old) (reach_after (model self.old) cabinet false) }
     {
-        told(self.pull_fitted(cabinet), Some(cabinet), None)
-    }
-
-    fn plug_fitted(&mut self, cabinet: usize) -> Result<(), SiteCause>
-        ensures answers { result ≡ cabinet_call (model_of R.ReadRow F.Field C.Cipher self.old) cabinet }
-        ensures becomes { let model = model_of R.ReadRow F.Field C.Cipher in model self.new ≡ leaves result (model self.old) (reach_after (model self.old) cabinet true) }
-    {
-        self.check_cabinet(cabinet)?;
-        self.row.plug(cabinet)?;
-        Ok(())
+        told(self.set_reach(cabinet, false), Some(cabinet), None)
     }
 
     // Puts a cabinet into reach. Refuses as `pull` does.
@@ -47,15 +42,20 @@ impl<R: Row, C: Cipher, F: Field> Site<R, C, F> {
         ensures answers { result ≡ named (Some cabinet) None (cabinet_call (model_of R.ReadRow F.Field C.Cipher self.old) cabinet) }
         ensures becomes { let model = model_of R.ReadRow F.Field C.Cipher in model self.new ≡ leaves result (model self.old) (reach_after (model self.old) cabinet true) }
     {
-        told(self.plug_fitted(cabinet), Some(cabinet), None)
+        told(self.set_reach(cabinet, true), Some(cabinet), None)
     }
 
-    fn clear_fitted(&mut self, cabinet: usize, file: usize) -> Result<(), SiteCause>
+    // Empties a slot or condemns it.
+    fn set_slot(&mut self, cabinet: usize, file: usize, condemned: bool) -> Result<(), SiteCause>
         ensures answers { result ≡ slot_call (model_of R.ReadRow F.Field C.Cipher self.old) cabinet file }
-        ensures becomes { let model = model_of R.ReadRow F.Field C.Cipher in model self.new ≡ leaves result (model self.old) (slot_after (model self.old) cabinet file Empty) }
+        ensures becomes { let model = model_of R.ReadRow F.Field C.Cipher in model self.new ≡ leaves result (model self.old) (slot_after (model self.old) cabinet file (if condemned then Condemned else Empty)) }
     {
         self.check_slot(cabinet, file)?;
-        self.row.clear(cabinet, file)?;
+        if condemned {
+            self.row.condemn(cabinet, file)?;
+        } else {
+            self.row.clear(cabinet, file)?;
+        }
         Ok(())
     }
 
@@ -65,16 +65,11 @@ impl<R: Row, C: Cipher, F: Field> Site<R, C, F> {
         ensures answers { result ≡ named (Some cabinet) (Some file) (slot_call (model_of R.ReadRow F.Field C.Cipher self.old) cabinet file) }
         ensures becomes { let model = model_of R.ReadRow F.Field C.Cipher in model self.new ≡ leaves result (model self.old) (slot_after (model self.old) cabinet file Empty) }
     {
-        told(self.clear_fitted(cabinet, file), Some(cabinet), Some(file))
-    }
-
-    fn condemn_fitted(&mut self, cabinet: usize, file: usize) -> Result<(), SiteCause>
-        ensures answers { result ≡ slot_call (model_of R.ReadRow F.Field C.Cipher self.old) cabinet file }
-        ensures becomes { let model = model_of R.ReadRow F.Field C.Cipher in model self.new ≡ leaves result (model self.old) (slot_after (model self.old) cabinet file Condemned) }
-    {
-        self.check_slot(cabinet, file)?;
-        self.row.condemn(cabinet, file)?;
-        Ok(())
+        told(
+            self.set_slot(cabinet, file, false),
+            Some(cabinet),
+            Some(file),
+        )
     }
 
     // Condemns a slot, in reach or not. Refuses as `clear` does.
@@ -83,7 +78,7 @@ impl<R: Row, C: Cipher, F: Field> Site<R, C, F> {
         ensures becomes { let model = model_of R.ReadRow F.Field C.Cipher in model self.new ≡ leaves result (model self.old) (slot_after (model self.old) cabinet file Condemned) }
     {
         told(
-            self.condemn_fitted(cabinet, file),
+            self.set_slot(cabinet, file, true),
             Some(cabinet),
             Some(file),
         )

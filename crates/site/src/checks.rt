@@ -15,7 +15,7 @@ use cipher::Cipher;
 use erasure::{Head, record_length};
 use rows::row::Row;
 
-// Refuses a file that is not there. That it is below 8 stays a clause: a number of a type of its own would be unpacked in each of them.
+// Refuses a file that is not there.
 pub(crate) fn check_file(file: usize) -> Result<(), SiteCause>
     ensures answers { result ≡ refuse (nat_le 8 file) NoFile (Ok tt) }
     ensures there { IfOk result (λ _. file < 8) }
@@ -62,10 +62,9 @@ impl<R: Row, C: Cipher, F: Field> Site<R, C, F> {
     pub(crate) fn due(&self, kept: Kept) -> Head
         ensures { result ≡ due_for (fitting_of F.Field C.Cipher self.now.plan) kept }
     {
-        let whole = match record_length::<F>(&self.plan, length_of_package(kept.size)) {
-            Some(n) => n as u16,
-            None => 0,
-        };
+        let whole = record_length::<F>(&self.plan, length_of_package(kept.size)).unwrap_or(
+            0,
+        ) as u16;
         Head {
             whole,
             number: F::field_number(),

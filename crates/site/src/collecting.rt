@@ -16,7 +16,8 @@ use standing::{Lowest, gather, lowest_standing, survey_of};
 
 impl<R: Row, C: Cipher, F: Field> Site<R, C, F> {
     // Reads the records of the k lowest cabinets that stand for a file, end to end into the front of a buffer, and answers
-    // these cabinets; what is kept of the file is passed along, since a struct of both could not say whose site keeps it. Refuses where fewer stand.
+    // these cabinets. Refuses where fewer stand. What is kept of the file is passed beside its number: the invariant of a struct of both
+    // could not name the site that keeps it.
     pub(crate) fn collect(
         &self,
         file: usize,

@@ -85,8 +85,8 @@ impl Cause for SiteCause {
     fn layer(self) -> u8 {
         match self {
             SiteCause::Row(fault) => fault.layer(),
-            SiteCause::Slice(_) => 2,
-            SiteCause::Seal(_) => 3,
+            SiteCause::Slice(fault) => fault.layer(),
+            SiteCause::Seal(fault) => fault.layer(),
             _ => 4,
         }
     }

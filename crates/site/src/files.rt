@@ -5,6 +5,6 @@ pub struct Kept {
     pub last: u16,
     // whether it can be got: it was put, and was not withdrawn since
     pub current: bool,
-    // how many bytes it has, 4,092 at most; it stands by itself, since a withdrawn file keeps it: `current` does not say if it means anything
+    // how many bytes it has, 4,092 at most; a withdrawn file keeps it too, so that it is no Option that `current` stands for
     pub size: u16,
 }

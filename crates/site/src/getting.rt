@@ -10,7 +10,8 @@ ghost use Rattle.site.specs.Model.{kept};
 ghost use Rattle.site.specs.Calls.{get_answer, got_file};
 ghost use Rattle.site.specs.Faults.{named};
 ghost use Rattle.site.specs.Steps.{opened_answer, restored_answer, sized_answer};
-ghost use Rattle.site.specs.Whole.{coding_of, model_of};
+ghost use Rattle.erasure.specs.Whole.{coding_of};
+ghost use Rattle.site.specs.Whole.{model_of};
 
 use crate::fault::{SiteCause, SiteFault};
 use crate::files::Kept;
@@ -23,7 +24,7 @@ use memory::{Buffers, Work, wipe_all};
 use recovery::join;
 use rows::row::Row;
 
-// Joins a package from records, over the whole of a buffer of just its length, which is why no Source is taken: it would say the length twice.
+// Joins a package from records, over the whole of a buffer of just its length. It takes no Source, which would say that length again.
 fn join_over<F: Field>(
     plan: &Plan,
     positions: &[u8],

@@ -6,7 +6,7 @@ ghost use Rattle.site.specs.Orders.{order_for};
 // refill, or deferred; there is no other way to let it go, since each that is handed out is unspent.
 pub struct Order {
     cabinet: usize,
-    // a flag, and no type without Drop: of such a type it is refused before any proof that one is let go, which no edit could show
+    // a flag: a type without Drop is refused where one is let go, before any proof, and so no edit could show that an order is not
     unspent: bool,
 }
 

@@ -13,7 +13,8 @@ ghost use Rattle.site.specs.Calls.{put_after, put_answer};
 ghost use Rattle.site.specs.Faults.{named};
 ghost use Rattle.site.specs.Model.{code, with_slots};
 ghost use Rattle.site.specs.Steps.{put_reached, put_sized};
-ghost use Rattle.site.specs.Whole.{coding_of, model_of};
+ghost use Rattle.erasure.specs.Whole.{coding_of};
+ghost use Rattle.site.specs.Whole.{model_of};
 
 use crate::checks::check_file;
 use crate::fault::{SiteCause, SiteFault};
@@ -117,10 +118,7 @@ impl<R: Row, C: Cipher, F: Field> Site<R, C, F> {
         requires { misfit size ≡ false }
         ensures { result ≡ nat_lt (R.ReadRow.model self.now.row).room (record_length (code (model_of R.ReadRow F.Field C.Cipher self.now)) size) }
     {
-        match record_length::<F>(&self.plan, size) {
-            Some(whole) => self.row.room() < whole,
-            None => false,
-        }
+        record_length::<F>(&self.plan, size).is_some_and(|whole| self.row.room() < whole)
     }
 
     // The bytes of the package of a file that may be put, or the refusal.

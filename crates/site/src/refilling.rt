@@ -1,5 +1,5 @@
 // A work order carried out: the records of all files made anew for one cabinet.
-ghost use Rattle.std.specs.Prelude.{◌≡◌, ◌+◌, ◌^◌, ◌<◌, false, not, ◌&&◌, is_none, set, if◌then◌else◌, nat_lt};
+ghost use Rattle.std.specs.Prelude.{◌≡◌, ◌<◌, false, not, ◌&&◌, is_none, set, if◌then◌else◌, nat_lt};
 ghost use Rattle.memory.specs.Lent.{Wiped, is_short};
 ghost use Rattle.rows.specs.Model.{Held, with_slot};
 ghost use Rattle.standing.specs.Sets.{set_of};

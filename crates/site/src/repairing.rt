@@ -11,7 +11,8 @@ ghost use Rattle.site.specs.Calls.{repair_after, repair_answer};
 ghost use Rattle.site.specs.Faults.{named};
 ghost use Rattle.site.specs.Model.{record_bytes, with_slots};
 ghost use Rattle.site.specs.Steps.{lacks, rebuild_for, rewrites};
-ghost use Rattle.site.specs.Whole.{coding_of, model_of};
+ghost use Rattle.erasure.specs.Whole.{coding_of};
+ghost use Rattle.site.specs.Whole.{model_of};
 
 use crate::fault::{SiteCause, SiteFault};
 use crate::site::{Site, told};

@@ -1,5 +1,5 @@
 // A site, and its founding.
-ghost use Rattle.std.specs.Prelude.{◌≡◌, ◌≤◌, ◌&&◌, nat_lt};
+ghost use Rattle.std.specs.Prelude.{◌≡◌, ◌&&◌, nat_lt};
 ghost use Rattle.site.specs.Model.{founded, with_all_new};
 ghost use Rattle.site.specs.Faults.{named};
 ghost use Rattle.site.specs.Whole.{fitting_of, model_of};
@@ -12,9 +12,9 @@ use erasure::Plan;
 use rows::row::Row;
 use std::marker::PhantomData;
 
-// What a site means is a function in clauses, model_of, and no Model: it has functions among its fields, and a Model's value has none.
 // Eight files in the cabinets of a row: file 0 is the bay map, file 1 the sign table. Of its own a site keeps each file's last
 // issue, currency and length and each cabinet's mark, which is open from a swap until a refill leaves no file; it keeps no key.
+// Clauses say what it means by `model_of`, and there is no Model: the value of one cannot hold functions, as what a row means does.
 #[derive(Drop)]
 pub struct Site<R: Row, C: Cipher, F: Field> {
     pub(crate) plan: Plan,

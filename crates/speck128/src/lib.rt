@@ -1,7 +1,7 @@
 // Speck128/128 behind the cipher interface. The round keys are worked out once for each key.
 #![tactic(auto)]
 
-ghost use Rattle.std.specs.Prelude.{◌≡◌, ◌+◌, ◌%◌, ◌^◌, ◌≤◌, bit_xor};
+ghost use Rattle.std.specs.Prelude.{◌≡◌, ◌+◌, ◌%◌, ◌^◌, bit_xor};
 ghost use Rattle.base.specs.Bytes.{le_value, part};
 ghost use Rattle.speck128.specs.Schedule.{RoundKeys};
 ghost use Rattle.speck128.specs.Speck.{ror, rol, rounds, start, joined, speck};

@@ -10,10 +10,7 @@ use rows::row::ReadRow;
 fn fits(count: usize, width: usize, room: usize) -> bool
     ensures { result ≡ nat_le (count * width) room }
 {
-    match count.checked_mul(width) {
-        Some(whole) => whole <= room,
-        None => false,
-    }
+    count.checked_mul(width).is_some_and(|whole| whole <= room)
 }
 
 // Reads the records of these cabinets end to end into the front of `out`, record i at i × stride, and leaves the rest of it.
