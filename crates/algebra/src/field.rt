@@ -6,7 +6,8 @@ ghost use Rattle.algebra.specs.Slices.{combined_at, combined};
 use base::{le_at, put_le};
 
 // A sum of slices of stored codes, each times its weight: there are as many slices as weights, and slice i begins at i times the
-// stride. A byte past the end of the sources counts as 0.
+// stride. A byte past the end of the sources counts as 0. Slices are found by the stride and are no chunks: it may be 0, and a place
+// may lie past it.
 #[derive(Clone, Copy)]
 pub struct WeightedSum<'a> {
     pub weights: &'a [u32],

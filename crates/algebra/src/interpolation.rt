@@ -34,6 +34,7 @@ pub fn weights<F: Field>(points: &[u32], x: u32, weights: &mut [u32])
     ensures value { length points.now ≤ length weights.old → Interpolates F.ops (length points.now) (at points.now) x (at weights.new) }
 {
     let n = points.len().min(weights.len());
+    // by index: of what is written through a zip of iter_mut a proof knows nothing
     for (j, p) in points[..n].iter().enumerate() {
         weights[j] = weight::<F>(points, *p, x);
     }

@@ -4,21 +4,21 @@ ghost use Rattle.aont.specs.Seals.{seal_number};
 
 use std::fmt;
 
-// Why a file is not sealed, or a package not unsealed.
+// Why a file is not sealed, or a package not unsealed, each cause with its number.
 #[derive(Clone, Copy, PartialEq, Eq, Debug)]
 pub enum SealFault {
     // the file has more than 4,092 bytes
-    FileTooLong,
+    FileTooLong = 14,
     // the key has not sixteen bytes
-    KeyNotSixteen,
+    KeyNotSixteen = 15,
     // no package has that length: it is no multiple of 16, below 48 or above 4,128
-    PackageMisfit,
+    PackageMisfit = 16,
     // the last block under the mask is not the canary
-    CanaryWrong,
+    CanaryWrong = 17,
     // the blocks before the canary are no file's frame under this cipher
-    NoSuchFile,
+    NoSuchFile = 18,
     // the output is shorter than what is to be written
-    OutputShort,
+    OutputShort = 23,
 }
 
 impl SealFault {
@@ -26,14 +26,7 @@ impl SealFault {
     pub fn number(self) -> u16
         ensures { result ≡ seal_number self }
     {
-        match self {
-            SealFault::FileTooLong => 14,
-            SealFault::KeyNotSixteen => 15,
-            SealFault::PackageMisfit => 16,
-            SealFault::CanaryWrong => 17,
-            SealFault::NoSuchFile => 18,
-            SealFault::OutputShort => 23,
-        }
+        self as u16
     }
 
     // The layer that refuses.

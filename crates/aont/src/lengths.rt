@@ -5,7 +5,8 @@ ghost use Rattle.aont.specs.Seals.{seal_answer};
 
 use crate::fault::SealFault;
 
-const LONGEST_FILE: usize = 4092;
+// Bytes that the longest file has.
+pub const LONGEST_FILE: usize = 4092;
 
 // The length of the package of a file of so many bytes.
 pub fn length_of_package(size: u16) -> usize

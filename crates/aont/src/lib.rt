@@ -11,7 +11,7 @@ ghost use Rattle.aont.specs.Seals.{seal_answer, unseal_answer, unsealed, Unseals
 use crate::blocks::{bind, block_at, mask_blocks, put};
 pub use crate::fault::SealFault;
 use crate::frame::lay_out;
-pub use crate::lengths::{length_of_package, sealed_length};
+pub use crate::lengths::{LONGEST_FILE, length_of_package, sealed_length};
 use crate::opening::Opening;
 use base::is_misfit;
 use cipher::Cipher;

@@ -15,14 +15,13 @@ mod found;
 mod tests;
 
 pub use crate::found::Found;
+pub use aont::LONGEST_FILE;
 use algebra::Field;
 use aont::SealFault;
 use cipher::Cipher;
 use erasure::{Plan, SliceFault};
 use std::alloc::{AllocError, Global};
 use std::array;
-
-pub const LONGEST_FILE: usize = 4092;
 
 // No package is longer.
 const LONGEST_PACKAGE: usize = 4128;

@@ -25,7 +25,8 @@ impl<A, B> Pile<A, B> {
     }
 }
 
-// The row of a pile that has a cabinet, with the cabinet's number there.
+// The row of a pile that has a cabinet, with the cabinet's number there. Each call matches it by itself: its two arms call methods of
+// two types, which no one closure can.
 enum Side {
     First(usize),
     Second(usize),

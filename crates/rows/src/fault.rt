@@ -3,20 +3,20 @@ ghost use Rattle.rows.specs.Faults.{cabinet_fault, row_number, slot_fault};
 
 use std::fmt;
 
-// Why a row refuses a call.
+// Why a row refuses a call, each cause with its number.
 #[derive(Clone, Copy, PartialEq, Eq, Debug)]
 pub enum RowCause {
     // the row has no such cabinet
-    NoCabinet,
+    NoCabinet = 1,
     // the files are 0 to 7
-    NoFile,
-    OutOfReach,
-    Condemned,
-    Empty,
+    NoFile = 2,
+    OutOfReach = 3,
+    Condemned = 4,
+    Empty = 5,
     // no bytes to write, or more than the room
-    SizeMisfit,
+    SizeMisfit = 6,
     // the buffer is shorter than what the slot holds
-    BufferShort,
+    BufferShort = 7,
 }
 
 // Why a layer refuses a call.
@@ -36,7 +36,8 @@ pub trait Cause: Copy {
         ensures { result ≡ layer_of self };
 }
 
-// A refusal: its cause, and the cabinet and the file that the call named, if it named any.
+// A refusal: its cause, and the cabinet and the file that the call named, if it named any. Slices and sealing know no rows and name
+// less: their refusals are types of their own.
 #[derive(Clone, Copy, PartialEq, Eq, Debug)]
 pub struct Fault<C> {
     pub cause: C,
@@ -47,22 +48,14 @@ pub struct Fault<C> {
 // A refusal of a row.
 pub type RowFault = Fault<RowCause>;
 
-// The numbers of a row's causes are 1 to 7; rows are layer 1.
+// Rows are layer 1.
 impl Cause for RowCause {
     ghost number_of = { row_number };
 
     ghost layer_of = { λ c. 1 };
 
     fn number(self) -> u16 {
-        match self {
-            RowCause::NoCabinet => 1,
-            RowCause::NoFile => 2,
-            RowCause::OutOfReach => 3,
-            RowCause::Condemned => 4,
-            RowCause::Empty => 5,
-            RowCause::SizeMisfit => 6,
-            RowCause::BufferShort => 7,
-        }
+        self as u16
     }
 
     fn layer(self) -> u8 {

@@ -7,7 +7,7 @@ use erasure::Head;
 use rows::row::ReadRow;
 use std::marker::Model;
 
-// The lowest cabinets that stand for a file, in order: a list of 16 numbers at most.
+// The lowest cabinets that stand for a file, in order: a list of 16 numbers at most, in an array, since there is no heap here.
 #[derive(Drop)]
 pub struct Lowest {
     found: usize,
