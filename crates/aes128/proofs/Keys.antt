@@ -7,7 +7,7 @@ use Rattle.base.specs.Bytes.{le_bytes, le_value}
 use Rattle.base.proofs.Little.{le_bytes-le_value}
 use Rattle.aes128.specs.declared.columns.Columns.{Columns}
 use Rattle.aes128.specs.Aes.{sbox, next_key}
-use Rattle.aes128.specs.Columns.{state_of, words}
+use Rattle.aes128.specs.Columns.{state_of}
 use Rattle.aes128.specs.Sizes.{sbox_byte}
 use Rattle.aes128.proofs.Words.{Bytes-of_four, four_of, known, state_is, xors, xors_of}
 
@@ -25,16 +25,16 @@ before_is word first ws e zero = e
 before_is word first ws e (suc c) = xors_of (get_or ws c 0) (before word ws c) _ _ refl (before_is word first ws e c)
 
 -- the first word is made of the last column t, and of the round constant
-pub key_words : (rc : ℕ) (s w : Columns) (t : List ℕ) (sub con : ℕ) → rc < 256 → t ≡ to_le_bytes w32 (get_or (words s) 3 0)
+pub key_words : (rc : ℕ) (s w : Columns) (t : List ℕ) (sub con : ℕ) → rc < 256 → t ≡ to_le_bytes w32 (get_or s.0 3 0)
     → sub ≡ le_value (map sbox (get_or t 1 0 ∷ get_or t 2 0 ∷ get_or t 3 0 ∷ get_or t 0 0 ∷ [])) → con ≡ rc
-    → words w ≡ map (λ c. before (bit_xor sub con) (words s) (suc c)) (range_with_len 0 4) → state_of w ≡ next_key rc (state_of s)
+    → w.0 ≡ map (λ c. before (bit_xor sub con) s.0 (suc c)) (range_with_len 0 4) → state_of w ≡ next_key rc (state_of s)
 unfolding state_of next_key
 key_words rc s w t sub con small et es ec e =
-    let k = le_bytes 4 (get_or (words s) 3 0) in
+    let k = le_bytes 4 (get_or s.0 3 0) in
     let moved = map sbox (get_or k 1 0 ∷ get_or k 2 0 ∷ get_or k 3 0 ∷ get_or k 0 0 ∷ []) in
     let turned : sub ≡ le_value moved =
-    es ∙ ap (λ x. le_value (map sbox (get_or x 1 0 ∷ get_or x 2 0 ∷ get_or x 3 0 ∷ get_or x 0 0 ∷ []))) (et ∙ four_of (get_or (words s) 3 0)) in
+    es ∙ ap (λ x. le_value (map sbox (get_or x 1 0 ∷ get_or x 2 0 ∷ get_or x 3 0 ∷ get_or x 0 0 ∷ []))) (et ∙ four_of (get_or s.0 3 0)) in
     let back : le_bytes 4 sub ≡ moved =
     ap (le_bytes 4) turned ∙ le_bytes-le_value moved (Bytes-of_four _ _ _ _ (sbox_byte _) (sbox_byte _) (sbox_byte _) (sbox_byte _)) in
     let constant = known con rc 0 0 0 (omega arith) small (lit< tt) (lit< tt) (lit< tt) in
-    state_is w _ _ e (λ c _. before_is (bit_xor sub con) _ (words s) (xors_of sub con _ _ back constant.0) (suc c))
+    state_is w _ _ e (λ c _. before_is (bit_xor sub con) _ s.0 (xors_of sub con _ _ back constant.0) (suc c))

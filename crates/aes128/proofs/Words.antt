@@ -11,7 +11,7 @@ use Rattle.cipher.specs.Blocks.{Block, xor}
 use Rattle.cipher.proofs.Xor.{block_is_sixteen, sixteen_same}
 use Rattle.aes128.specs.declared.columns.Columns.{Columns}
 use Rattle.aes128.specs.Aes.{sbox, xtime, thrice, mixed, state, sub_bytes, shift_rows, mix_columns, round, last_round}
-use Rattle.aes128.specs.Columns.{byte_in, state_of, shifted, word_at, words}
+use Rattle.aes128.specs.Columns.{byte_in, state_of, shifted, word_at}
 use Rattle.aes128.specs.Sizes.{sbox_byte, xtime_byte, thrice_byte}
 
 abbrev pub xors : List ℕ → List ℕ → List ℕ
@@ -52,7 +52,7 @@ mixed_back p q u v hp hq hu hv =
     (sum_byte (thrice p) q u (xtime v) (thrice_byte p hp) hq hu (xtime_byte v hv)))
 
 -- a state by its words
-pub state_is : (w : Columns) (F : ℕ → ℕ) (P : ℕ → List ℕ) → words w ≡ map F (range_with_len 0 4) → ((c : ℕ) → c < 4 → le_bytes 4 (F c) ≡ P c)
+pub state_is : (w : Columns) (F : ℕ → ℕ) (P : ℕ → List ℕ) → w.0 ≡ map F (range_with_len 0 4) → ((c : ℕ) → c < 4 → le_bytes 4 (F c) ≡ P c)
     → state_of w ≡ state (λ r c. get_or (P c) r 0)
 unfolding state_of
 state_is w F P e h =
@@ -62,36 +62,36 @@ state_is w F P e h =
     ap (λ n. byte_in n (k % 4)) (get_or-map-range_with_len F 0 4 (k / 4) (k / 4) 0 c (omega arith)) ∙ ap (λ bs. get_or bs (k % 4) 0) (h (k / 4) c))
 
 abbrev pub added : Columns → Columns → ℕ → ℕ
-added s k c = bit_xor (get_or (words s) c 0) (get_or (words k) c 0)
+added s k c = bit_xor (get_or s.0 c 0) (get_or k.0 c 0)
 
-pub xor_bytes : (s k w : Columns) → words w ≡ map (added s k) (range_with_len 0 4) → state_of w ≡ xor (state_of s) (state_of k)
+pub xor_bytes : (s k w : Columns) → w.0 ≡ map (added s k) (range_with_len 0 4) → state_of w ≡ xor (state_of s) (state_of k)
 unfolding state_of xor
-xor_bytes s k w e = state_is w (added s k) _ e (λ c _. le_bytes-xor 4 (get_or (words s) c 0) (get_or (words k) c 0))
+xor_bytes s k w e = state_is w (added s k) _ e (λ c _. le_bytes-xor 4 (get_or s.0 c 0) (get_or k.0 c 0))
 
 -- a column with a round key put on it, of a state after the S-box and ShiftRows, and after MixColumns too
 abbrev moved : Columns → ℕ → List ℕ
-moved s c = map sbox (map (shifted (words s) c) (range_with_len 0 4))
+moved s c = map sbox (map (shifted s.0 c) (range_with_len 0 4))
 
 abbrev pub moved_with : Columns → Columns → ℕ → ℕ
-moved_with s k c = bit_xor (le_value (moved s c)) (get_or (words k) c 0)
+moved_with s k c = bit_xor (le_value (moved s c)) (get_or k.0 c 0)
 
 abbrev blended : Columns → ℕ → List ℕ
-blended s c = mixed (sbox (shifted (words s) c 0)) (sbox (shifted (words s) c 1)) (sbox (shifted (words s) c 2)) (sbox (shifted (words s) c 3))
+blended s c = mixed (sbox (shifted s.0 c 0)) (sbox (shifted s.0 c 1)) (sbox (shifted s.0 c 2)) (sbox (shifted s.0 c 3))
 
 abbrev pub blended_with : Columns → Columns → ℕ → ℕ
-blended_with s k c = bit_xor (le_value (blended s c)) (get_or (words k) c 0)
+blended_with s k c = bit_xor (le_value (blended s c)) (get_or k.0 c 0)
 
 keyed : (k w : Columns) (m : ℕ → List ℕ) → ((c : ℕ) → le_bytes 4 (le_value (m c)) ≡ m c)
-    → words w ≡ map (λ c. bit_xor (le_value (m c)) (get_or (words k) c 0)) (range_with_len 0 4)
-    → state_of w ≡ state (λ r c. get_or (xors (m c) (le_bytes 4 (get_or (words k) c 0))) r 0)
+    → w.0 ≡ map (λ c. bit_xor (le_value (m c)) (get_or k.0 c 0)) (range_with_len 0 4)
+    → state_of w ≡ state (λ r c. get_or (xors (m c) (le_bytes 4 (get_or k.0 c 0))) r 0)
 keyed k w m back e =
-    state_is w _ _ e (λ c _. xors_of (le_value (m c)) (get_or (words k) c 0) (m c) (le_bytes 4 (get_or (words k) c 0)) (back c) refl)
+    state_is w _ _ e (λ c _. xors_of (le_value (m c)) (get_or k.0 c 0) (m c) (le_bytes 4 (get_or k.0 c 0)) (back c) refl)
 
-pub round_bytes : (s k w : Columns) → words w ≡ map (blended_with s k) (range_with_len 0 4) → state_of w ≡ round (state_of k) (state_of s)
+pub round_bytes : (s k w : Columns) → w.0 ≡ map (blended_with s k) (range_with_len 0 4) → state_of w ≡ round (state_of k) (state_of s)
 unfolding state_of sub_bytes shift_rows mix_columns xor
 round_bytes s k w e = keyed k w (blended s) (λ c. mixed_back _ _ _ _ (sbox_byte _) (sbox_byte _) (sbox_byte _) (sbox_byte _)) e
 
-pub last_bytes : (s k w : Columns) → words w ≡ map (moved_with s k) (range_with_len 0 4) → state_of w ≡ last_round (state_of k) (state_of s)
+pub last_bytes : (s k w : Columns) → w.0 ≡ map (moved_with s k) (range_with_len 0 4) → state_of w ≡ last_round (state_of k) (state_of s)
 unfolding state_of sub_bytes shift_rows xor
 last_bytes s k w e =
     keyed k w (moved s) (λ c. le_bytes-le_value (moved s c) (Bytes-of_four _ _ _ _ (sbox_byte _) (sbox_byte _) (sbox_byte _) (sbox_byte _))) e
@@ -129,7 +129,7 @@ mixed_rows p q u v a b c d a1 b1 c1 d1 hp hq hu hv ea eb ec ed la lb lc ld =
 abbrev pub read_from : List ℕ → ℕ → ℕ
 read_from block c = word_at block (4 * c)
 
-pub read_bytes : (block : List ℕ) (w : Columns) → Block block → words w ≡ map (read_from block) (range_with_len 0 4) → state_of w ≡ block
+pub read_bytes : (block : List ℕ) (w : Columns) → Block block → w.0 ≡ map (read_from block) (range_with_len 0 4) → state_of w ≡ block
 read_bytes block w h e =
     let at = λ (i : ℕ). get_or block i 0 in
     state_is w (read_from block) (λ c. at (4 * c) ∷ at (4 * c + 1) ∷ at (4 * c + 2) ∷ at (4 * c + 3) ∷ []) e

@@ -1,5 +1,5 @@
 -- A state as the code holds it: four words, one for each column, with row 0 in the lowest byte. Assumes nothing.
-use Rattle.std.specs.Prelude.{◌≡◌, ℕ, ◌+◌, ◌*◌, ◌%◌, List, [], ◌∷◌, map, slice_index}
+use Rattle.std.specs.Prelude.{◌≡◌, ℕ, ◌+◌, ◌*◌, ◌%◌, List, map, slice_index}
 use Rattle.std.specs.List.{range_with_len}
 use Rattle.base.specs.Bytes.{le_bytes}
 use Rattle.aes128.specs.declared.columns.Columns.{Columns}
@@ -17,13 +17,9 @@ word_at bs at = word (slice_index bs at) (slice_index bs (at + 1)) (slice_index 
 abbrev pub byte_in : ℕ → ℕ → ℕ
 byte_in word r = slice_index (le_bytes 4 word) r
 
--- the words, column by column
-abbrev pub words : Columns → List ℕ
-words w = w.a ∷ w.b ∷ w.c ∷ w.d ∷ []
-
 -- the state's sixteen bytes
 unfoldable pub state_of : Columns → List ℕ
-state_of w = state (λ r c. byte_in (slice_index (words w) c) r)
+state_of w = state (λ r c. byte_in (slice_index w.0 c) r)
 
 -- the bytes, row by row, that ShiftRows puts into a column of these words
 abbrev pub shifted : List ℕ → ℕ → ℕ → ℕ

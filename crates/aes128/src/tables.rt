@@ -1,7 +1,7 @@
 // The tables of a round. Entry x of MIXED_TWICE is the column that SubBytes and MixColumns make of a byte x in row 0 alone, with
 // row 0 in the lowest byte, twice over. Of a byte in row r they make the same column turned by r rows, which the entry holds
 // from its byte 4 - r on; rotating the words of a table of single columns takes longer.
-ghost use Rattle.std.specs.Prelude.{◌≡◌, ◌%◌, ◌^◌, ◌++◌, map, slice_index};
+ghost use Rattle.std.specs.Prelude.{◌≡◌, ◌%◌, ◌^◌, ◌++◌, map, slice_index, bit_xor};
 ghost use Rattle.base.specs.Bytes.{le_value};
 ghost use Rattle.aes128.specs.Aes.{sbox, mixed};
 
@@ -309,11 +309,13 @@ fn low_word(twice: u64) -> u32
     (twice & 0xffff_ffff) as u32
 }
 
-// A column through the S-box and MixColumns, as a word: the exclusive or of what they make of each row alone.
-pub fn mixed_column(column: [u8; 4]) -> u32
-    ensures { result ≡ le_value (mixed (sbox (slice_index column 0)) (sbox (slice_index column 1)) (sbox (slice_index column 2)) (sbox (slice_index column 3))) }
+// A column through the S-box and MixColumns, as a word, and a word of the round key added: the exclusive or of what they make of each
+// row alone, and of the key. The key goes into an entry's eight bytes: four keys that are added to four words the compiler adds in
+// a vector register, out of which the next round takes each byte again, and sealing takes 1.6 times as long.
+pub fn mixed_column(column: [u8; 4], key: u32) -> u32
+    ensures { result ≡ bit_xor (le_value (mixed (sbox (slice_index column 0)) (sbox (slice_index column 1)) (sbox (slice_index column 2)) (sbox (slice_index column 3)))) key }
 {
-    low_word(mixed_twice(column[0]))
+    low_word(mixed_twice(column[0]) ^ u64::from(key))
         ^ low_word(mixed_twice(column[1]) >> 24)
         ^ low_word(mixed_twice(column[2]) >> 16)
         ^ low_word(mixed_twice(column[3]) >> 8)

@@ -5,6 +5,6 @@ use Rattle.aes128.proofs.columns.Columns.next_key.Given as goal
 
 abbrev pub invariant-loop-word : goal.invariant-loop-word
 invariant-loop-word l = record {
-  placed : Placed l.initial.word-items l.word-items l.word-index (λ c. before l.initial.before l.initial.word-items (suc c));
-  last : l.before ≡ before l.initial.before l.initial.word-items l.word-index;
+  words : Placed l.self.0 l.word-items l.word-index (λ c. before l.initial.before l.self.0 (suc c));
+  last : l.before ≡ before l.initial.before l.self.0 l.word-index;
 }

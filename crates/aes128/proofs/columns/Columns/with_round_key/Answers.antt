@@ -1,5 +1,4 @@
-use Rattle.std.proofs.Common.{◌≡◌, ◌∙◌, rules}
-use Rattle.aes128.specs.Columns.{words}
+use Rattle.std.proofs.Common.{◌≡◌, rules, refl}
 use Rattle.cipher.proofs.Made.{made}
 use Rattle.aes128.proofs.Words.{added, xor_bytes}
 use Rattle.aes128.specs.contracts.columns.fn.Columns.with_round_key.from_fn as closure
@@ -10,5 +9,4 @@ returns c =
     let s = c.args.self.now in
     let k = c.args.key.now in
     xor_bytes s k _
-    (c.from.ensures ∙ made _ (λ p. let l = closure.captures p in (l.ws ≡ words s) × (l.ks ≡ words k)) (added s k) (λ p q i x kept call. search rules) 4 _ _ 0
-    (c.words-ws.ensures, c.words-ks.ensures) c.from_fn.ensures.items)
+    (made _ (λ p. let l = closure.captures p in (l.self.now ≡ s) × (l.key.now ≡ k)) (added s k) (λ p q i x kept call. search rules) 4 _ _ 0 (refl, refl) c.from_fn.ensures.items)
