@@ -15,8 +15,8 @@ mod found;
 mod tests;
 
 pub use crate::found::Found;
-pub use aont::LONGEST_FILE;
 use algebra::Field;
+pub use aont::LONGEST_FILE;
 use aont::SealFault;
 use cipher::Cipher;
 use erasure::{Plan, SliceFault};
