@@ -1,7 +1,7 @@
 // Working memory that a caller lends for one call, and that is zero when the call has returned.
 #![tactic(auto)]
 
-ghost use Rattle.std.specs.Prelude.{◌≡◌, is_none, length};
+ghost use Rattle.std.specs.Prelude.{◌≡◌, is_none, length, take, IfSome};
 ghost use Rattle.memory.specs.Zeros.{short, zeroed};
 
 // Bytes that each of the four buffers is to have at least.
@@ -38,7 +38,8 @@ impl<'a> Buffers<'a> {
         records: &'a mut [u8],
         opened: &'a mut [u8],
     ) -> Option<Buffers<'a>>
-        ensures { is_none result ≡ short (length sealed.old) (length spread.old) (length records.old) (length opened.old) }
+        ensures some { is_none result ≡ short (length sealed.old) (length spread.old) (length records.old) (length opened.old) }
+        ensures fronts { IfSome result (λ b. (b.sealed.now ≡ take 6400 sealed.old) × (b.spread.now ≡ take 6400 spread.old) × (b.records.now ≡ take 6400 records.old) × (b.opened.now ≡ take 6400 opened.old)) }
     {
         Some(Buffers {
             sealed: sealed.first_chunk_mut()?,
