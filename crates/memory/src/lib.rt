@@ -1,4 +1,4 @@
-// Working memory that a caller lends for one call, and that is zero when the call has returned.
+// Working memory that a caller lends for one call, and the guard that wipes it.
 #![tactic(auto)]
 
 ghost use Rattle.std.specs.Prelude.{◌≡◌, is_none, length, take, IfSome};
@@ -19,6 +19,13 @@ pub struct Work<'a> {
     pub records: &'a mut [u8],
     // a file
     pub opened: &'a mut [u8],
+}
+
+// Whether a buffer is too short, of four that have so many bytes.
+pub fn is_short(sealed: usize, spread: usize, records: usize, opened: usize) -> bool
+    ensures { result ≡ short sealed spread records opened }
+{
+    sealed < LEAST || spread < LEAST || records < LEAST || opened < LEAST
 }
 
 // The fronts of the four buffers, each of the least length.
@@ -50,16 +57,46 @@ impl<'a> Buffers<'a> {
     }
 }
 
-// Makes the four buffers zero. They come one by one, and not as a Work: of a struct that is lent or dropped whole a caller's proof
-// does not learn what is left behind its fields.
+// A guard over the four buffers: they are zero once it ends.
+pub struct Wipe<'a> {
+    pub sealed: &'a mut [u8],
+    pub spread: &'a mut [u8],
+    pub records: &'a mut [u8],
+    pub opened: &'a mut [u8],
+}
+
+impl Drop for Wipe<'_> {
+    fn drop(self)
+        ensures sealed { self.exit.0.now ≡ zeroed self.entry.sealed.now }
+        ensures spread { self.exit.1.0.now ≡ zeroed self.entry.spread.now }
+        ensures records { self.exit.1.1.0.now ≡ zeroed self.entry.records.now }
+        ensures opened { self.exit.1.1.1.0.now ≡ zeroed self.entry.opened.now }
+    {
+        self.sealed.fill(0);
+        self.spread.fill(0);
+        self.records.fill(0);
+        self.opened.fill(0);
+        let Wipe {
+            sealed: _,
+            spread: _,
+            records: _,
+            opened: _,
+        } = self;
+    }
+}
+
+// Makes the four buffers zero. They come one by one, and not as a Work: of a struct that is lent whole a caller's proof does not
+// learn what is left behind its fields.
 pub fn wipe_all(sealed: &mut [u8], spread: &mut [u8], records: &mut [u8], opened: &mut [u8])
     ensures sealed { sealed.new ≡ zeroed sealed.old }
     ensures spread { spread.new ≡ zeroed spread.old }
     ensures records { records.new ≡ zeroed records.old }
     ensures opened { opened.new ≡ zeroed opened.old }
 {
-    sealed.fill(0);
-    spread.fill(0);
-    records.fill(0);
-    opened.fill(0);
+    let _wipe = Wipe {
+        sealed,
+        spread,
+        records,
+        opened,
+    };
 }

@@ -3,3 +3,4 @@ pub mod Unread
 pub mod Members
 pub mod Same
 pub mod EndToEnd
+pub mod Found

@@ -2,3 +2,4 @@ pub mod Standing
 pub mod Sets
 pub mod Gather
 pub mod Unread
+pub mod Found

@@ -7,21 +7,30 @@ use erasure::Head;
 use rows::row::ReadRow;
 use std::marker::Model;
 
-// The lowest cabinets that stand for a file, in order: a list of 16 numbers at most, in an array, since there is no heap here.
-#[derive(Drop)]
+// The lowest cabinets that stand for a file, in order: a list of 16 numbers at most, in an array, since there is no heap here. Past
+// those that were found the array is zero, so that the list says all of it and the type can be copied.
+#[derive(Clone, Copy)]
 pub struct Lowest {
     found: usize,
     positions: [u8; 16],
 }
 
 impl Model for Lowest {
-    ghost use Rattle.std.specs.Prelude.{ℕ, ◌≤◌, List, take};
+    ghost use Rattle.std.specs.Prelude.{◌≡◌, ℕ, ◌-◌, ◌≤◌, List, ◌++◌, length, take, drop, replicate};
+    ghost use Rattle.standing.specs.Found.{length_back, places_back};
 
     ghost Value = { List ℕ };
 
     ghost view = { λ s. take s.found s.positions };
 
-    ghost invariant = { λ s. s.found ≤ 16 };
+    ghost invariant = { λ s. (s.found ≤ 16) × (length s.positions ≡ 16) × (drop s.found s.positions ≡ replicate (16 - s.found) 0) };
+
+    ghost inverse = { λ xs. record { found = length xs; positions = xs ++ replicate (16 - length xs) 0 } };
+
+    ghost inverse_ok = { λ s h i. record {
+      found = length_back s.found s.positions h.0 h.1 i;
+      positions = places_back s.found s.positions h.0 h.1 h.2 i;
+    } };
 }
 
 impl Lowest {
