@@ -1,4 +1,4 @@
-ghost use Rattle.std.specs.Prelude.{◌≡◌, length, drop, replicate};
+ghost use Rattle.std.specs.Prelude.{◌≡◌, length, drop};
 ghost use Rattle.base.specs.Answers.{leaves};
 ghost use Rattle.base.specs.Bytes.{over};
 ghost use Rattle.erasure.specs.Records.{columns, record_length};
@@ -29,18 +29,17 @@ impl<F: Field> Checked<'_, F> {
         cut_from::<F>(self.plan, self.bytes, &sources, cabinet, issue, out)
     }
 
-    // The slices of the package, one after the other.
-    fn slices(&self) -> [u8; 6400]
-        ensures { result ≡ over (recovered (coding_of F.Field self.now.plan.now) self.now.positions.now (drop 6 self.now.records.now) (record_length (coding_of F.Field self.now.plan.now) self.now.bytes) (columns (coding_of F.Field self.now.plan.now) self.now.bytes)) (replicate 6400 0) }
+    // Writes the slices of the package, one after the other, into a buffer that is lent, since an array that is returned would take
+    // the stack of its copies.
+    fn slices(&self, slices: &mut [u8; 6400])
+        ensures { slices.new ≡ over (recovered (coding_of F.Field self.now.plan.now) self.now.positions.now (drop 6 self.now.records.now) (record_length (coding_of F.Field self.now.plan.now) self.now.bytes) (columns (coding_of F.Field self.now.plan.now) self.now.bytes)) slices.old }
     {
-        let mut slices = [0u8; 6400];
         let size = self.slice_length();
         let sources = self.sources();
         // by places: after a loop over chunks_exact_mut a proof knows nothing of what stands in the chunks
         for i in 0..self.plan.needed() {
             sources.symbols_at::<F>(self.plan, i as u32, &mut slices[i * size..(i + 1) * size]);
         }
-        slices
     }
 
     // Joins the package.
@@ -51,7 +50,8 @@ impl<F: Field> Checked<'_, F> {
         if !self.codes_fit() {
             return refused(SliceCause::SymbolMisfit, None);
         }
-        let slices = self.slices();
+        let mut slices = [0u8; 6400];
+        self.slices(&mut slices);
         if !self.slices_fit(&slices) {
             return refused(SliceCause::SymbolMisfit, None);
         }

@@ -13,7 +13,7 @@ returns-then-not-slices_fit g c =
     let C = coding_of g.F.Field self.plan.now in
     let codes : codes_fit C self.bytes self.records.now ≡ true = sym c.codes_fit.ensures ∙ c.if-not-codes_fit.false in
     let symbols : data_fits C self.bytes self.positions.now self.records.now ≡ false =
-    sym (c.slices_fit.ensures ∙ data_is C g.met.F.Field.lawful g.met.F.Field.widths self.bytes self.positions.now self.records.now _ c.slices-slices.ensures) ∙ c.if-not-slices_fit.true in
+    sym (c.slices_fit.ensures ∙ data_is C g.met.F.Field.lawful g.met.F.Field.widths self.bytes self.positions.now self.records.now _ c.slices.ensures) ∙ c.if-not-slices_fit.true in
     search (rules, codes, symbols)
 
 pub returns-then-out-self : goal.returns-then-out-self
@@ -22,7 +22,7 @@ returns-then-out-self g c =
     let C = coding_of g.F.Field self.plan.now in
     let codes : codes_fit C self.bytes self.records.now ≡ true = sym c.codes_fit.ensures ∙ c.if-not-codes_fit.false in
     let symbols : data_fits C self.bytes self.positions.now self.records.now ≡ true =
-    sym (c.slices_fit.ensures ∙ data_is C g.met.F.Field.lawful g.met.F.Field.widths self.bytes self.positions.now self.records.now _ c.slices-slices.ensures) ∙ c.if-not-slices_fit.false in
+    sym (c.slices_fit.ensures ∙ data_is C g.met.F.Field.lawful g.met.F.Field.widths self.bytes self.positions.now self.records.now _ c.slices.ensures) ∙ c.if-not-slices_fit.false in
     search (rules, codes, symbols)
 
 pub returns : goal.returns
@@ -37,10 +37,10 @@ returns g c =
     let own = take self.bytes out in
     let codes : codes_fit C self.bytes records ≡ true = sym c.codes_fit.ensures ∙ c.if-not-codes_fit.false in
     let symbols : data_fits C self.bytes positions records ≡ true =
-    sym (c.slices_fit.ensures ∙ data_is C L W self.bytes positions records _ c.slices-slices.ensures) ∙ c.if-not-slices_fit.false in
+    sym (c.slices_fit.ensures ∙ data_is C L W self.bytes positions records _ c.slices.ensures) ∙ c.if-not-slices_fit.false in
     let long : length own ≡ self.bytes = length-take self.bytes out ∙ omega arith in
     let is : c.gather.new.out ≡ package_from C self.bytes positions records =
-    c.gather.ensures ∙ package_is C L W self.bytes positions records _ c.slices-slices.ensures (omega (arith, self.plan.now.fits)) own long self.sized in
+    c.gather.ensures ∙ package_is C L W self.bytes positions records _ c.slices.ensures (omega (arith, self.plan.now.fits)) own long self.sized in
     let size : self.bytes ≡ length c.gather.new.out = sym (ap length is ∙ package-long C L W self.bytes positions records self.sized) in
     record {
       answers = search (rules, codes, symbols);

@@ -1,6 +1,6 @@
-use Rattle.std.proofs.Common.{◌≡◌, ℕ, ◌+◌, ◌*◌, ◌≤◌, List, ◌++◌, length, drop, replicate, sym, ap, ◌∙◌, mul-le-mul_right, add-mul, one-mul, zero-mul, arith, rules}
+use Rattle.std.proofs.Common.{◌≡◌, ℕ, ◌+◌, ◌*◌, ◌≤◌, List, ◌++◌, length, drop, sym, ap, ◌∙◌, mul-le-mul_right, add-mul, one-mul, arith}
 use Rattle.std.specs.List.{range_with_len, flat_map}
-use Rattle.std.proofs.lemmas.List.{length-append, length-drop, length-replicate}
+use Rattle.std.proofs.lemmas.List.{length-append, length-drop}
 use Rattle.base.specs.Bytes.{over}
 use Rattle.base.proofs.Pieces.{length_pieces}
 use Rattle.algebra.specs.Polynomials.{at}
@@ -17,22 +17,11 @@ use Rattle.recovery.proofs.checking.Checked.slices.Goals as goal
 within : (i k size : ℕ) → i + 1 ≤ k → k * size ≤ 6400 → (i + 1) * size ≤ 6400
 within i k size h all = omega (arith, mul-le-mul_right size h)
 
-laid-long : (slice : ℕ → List ℕ) (now : List ℕ) (i size : ℕ) → ((j : ℕ) → length (slice j) ≡ size) → (i + 1) * size ≤ 6400 →
-    now ≡ flat_map slice (range_with_len 0 i) ++ drop (i * size) (replicate 6400 0) → length now ≡ 6400
-laid-long slice now i size wide room e =
-    let zeros : List ℕ = replicate 6400 0 in
-    ap length e ∙ length-append (flat_map slice (range_with_len 0 i)) (drop (i * size) zeros)
-    ∙ omega (arith, length_pieces slice size wide i, length-drop (i * size) zeros, length-replicate {A = ℕ} 6400 0, add-mul i 1 size, one-mul size)
-
-pub loop-i-init : goal.loop-i-init
-loop-i-init g c = ap (λ n. drop n (replicate 6400 0)) (sym (zero-mul c.slice_length-size.result))
-
-pub slice_bounds-slices-end : goal.slice_bounds-slices-end
-slice_bounds-slices-end g c =
-    let size = c.slice_length-size.result in
-    let end : (c.loop-i.i + 1) * size ≤ 6400 = within c.loop-i.i c.args.self.now.plan.now.k size (omega (arith, c.needed-i-end.ensures)) c.slice_length-size.ensures.all in
-    let long = c.type_inv.slices in
-    search rules
+laid-long : (slice : ℕ → List ℕ) (lent now : List ℕ) (i size : ℕ) → ((j : ℕ) → length (slice j) ≡ size) → (i + 1) * size ≤ length lent →
+    now ≡ flat_map slice (range_with_len 0 i) ++ drop (i * size) lent → length now ≡ length lent
+laid-long slice lent now i size wide room e =
+    ap length e ∙ length-append (flat_map slice (range_with_len 0 i)) (drop (i * size) lent)
+    ∙ omega (arith, length_pieces slice size wide i, length-drop (i * size) lent, add-mul i 1 size, one-mul size)
 
 pub loop-i-preserved : goal.loop-i-preserved
 loop-i-preserved g c =
@@ -42,16 +31,17 @@ loop-i-preserved g c =
     let size = c.slice_length-size.result in
     let told = c.slice_length-size.ensures in
     let from = c.sources-sources.result in
-    let zeros : List ℕ = replicate 6400 0 in
+    let lent = c.args.slices.now in
     let i = c.loop-i.i in
     let own = worked_slice C from.positions.now from.slices.now from.stride in
     let wide : (n j : ℕ) → length (own n j) ≡ n * f.stored = λ n j. length-combined f.ops f.stored (point_weights C (at from.positions.now) j) from.slices.now from.stride n in
     let end : (i + 1) * size ≤ 6400 = within i self.plan.now.k size (omega (arith, c.needed-i-end.ensures)) told.all in
+    let long : length lent ≡ 6400 = c.told-slices in
+    let room : (i + 1) * size ≤ length lent = omega (arith, end, long) in
     let m = columns C self.bytes in
-    slices_more f.stored m own wide zeros c.loop-i.slices c.symbols_at.new.out i size
+    slices_more f.stored m own wide lent c.loop-i.slices c.symbols_at.new.out i size
     (stored-least f.ops g.met.F.Field.lawful f.width f.stored f.number g.met.F.Field.widths) told.value c.loop-i.invariant
-    (laid-long (own m) c.loop-i.slices i size (λ j. wide m j ∙ sym told.value) end c.loop-i.invariant ∙ sym (length-replicate {A = ℕ} 6400 0))
-    (omega (arith, end, length-replicate {A = ℕ} 6400 0)) c.symbols_at.ensures
+    (laid-long (own m) lent c.loop-i.slices i size (λ j. wide m j ∙ sym told.value) room c.loop-i.invariant) room c.symbols_at.ensures
 
 pub returns : goal.returns
 unfolding recovered
@@ -62,11 +52,11 @@ returns g c =
     let m = columns C self.bytes in
     let from = c.sources-sources.result in
     let told = c.sources-sources.ensures in
-    let zeros : List ℕ = replicate 6400 0 in
+    let lent = c.args.slices.now in
     let own = worked_slice C from.positions.now from.slices.now from.stride in
     let last : c.loop-i.i ≡ self.plan.now.k = omega (arith, c.needed-i-end.ensures) in
-    slices_all f.stored m own (λ n j. length-combined f.ops f.stored (point_weights C (at from.positions.now) j) from.slices.now from.stride n) zeros c.loop-i.slices c.loop-i.i c.slice_length-size.result self.plan.now.k
+    slices_all f.stored m own (λ n j. length-combined f.ops f.stored (point_weights C (at from.positions.now) j) from.slices.now from.stride n) lent c.loop-i.slices c.loop-i.i c.slice_length-size.result self.plan.now.k
     c.slice_length-size.ensures.value last c.loop-i.invariant
-    ∙ ap (λ ps. over (recovered C ps from.slices.now from.stride m) zeros) told.positions
-    ∙ ap (λ xs. over (recovered C self.positions.now xs from.stride m) zeros) told.slices
-    ∙ ap (λ n. over (recovered C self.positions.now (drop 6 self.records.now) n m) zeros) told.stride
+    ∙ ap (λ ps. over (recovered C ps from.slices.now from.stride m) lent) told.positions
+    ∙ ap (λ xs. over (recovered C self.positions.now xs from.stride m) lent) told.slices
+    ∙ ap (λ n. over (recovered C self.positions.now (drop 6 self.records.now) n m) lent) told.stride
