@@ -1,10 +1,10 @@
 -- Two rows end to end. Assumes nothing.
-use Rattle.std.specs.Prelude.{ℕ, ◌+◌, ◌-◌, min, false, cond, Some, Ok, Err, Result, nat_lt}
+use Rattle.std.specs.Prelude.{◌≡◌, ℕ, ◌+◌, ◌-◌, ◌≤◌, min, false, cond, ◌⊎◌, List, Some, Ok, Err, Result, nat_lt}
 use Rattle.std.proofs.Common.{arith}
 use Rattle.std.proofs.lemmas.Grind.{common_steps}
 use Rattle.rows.specs.declared.fault.Fault.{Fault}
 use Rattle.rows.specs.declared.fault.RowCause.{RowCause}
-use Rattle.rows.specs.Model.{RowModel, Empty, Sound}
+use Rattle.rows.specs.Model.{RowModel, Empty, Held, Sound}
 
 -- what p says of the first n cabinets and q of those that follow, up to 16 in all
 abbrev pub end_to_end : {X : Type 0} → ℕ → (ℕ → X) → (ℕ → X) → X → ℕ → X
@@ -26,6 +26,19 @@ naming c (Err e) = Err (record { cause = e.cause; cabinet = Some c; file = e.fil
 
 -- Two sound rows make a sound one: the rest of this file is proofs, which the interface asks for with the meaning; nobody
 -- has to believe them.
+module _ (a b : RowModel) (sound_a : Sound a) (sound_b : Sound b) where
+  -- a slot that holds bytes is one of the two rows'
+  whose : (c f : ℕ) (bs : List ℕ) → (piled a b).slot c f ≡ Held bs → (a.slot c f ≡ Held bs) ⊎ (b.slot (c - a.count) f ≡ Held bs)
+  unfolding piled
+  whose c f bs e = grind (arith, common_steps)
+
+  none_past : {X : Type 0} (p q : ℕ → X) (none : X) (c : ℕ) → min 16 (a.count + b.count) ≤ c → ((d : ℕ) → b.count ≤ d → q d ≡ none) → end_to_end a.count p q none c ≡ none
+  none_past p q none c h past = grind (arith, common_steps, sound_a.few, past)
+
+  no_file_past : (c f : ℕ) → 8 ≤ f → (piled a b).slot c f ≡ Empty
+  unfolding piled
+  no_file_past c f h = grind (arith, common_steps, sound_a.no_file, sound_b.no_file)
+
 pub piled_sound : (a b : RowModel) → Sound a → Sound b → Sound (piled a b)
 unfolding piled
 piled_sound a b sound_a sound_b = record {
@@ -34,7 +47,7 @@ piled_sound a b sound_a sound_b = record {
   some = λ c f bs e. grind (arith, common_steps, sound_a.some, sound_b.some);
   most = λ c f bs e. grind (arith, common_steps, sound_a.most, sound_b.most);
   bytes = λ c f bs e. grind (arith, common_steps, sound_a.bytes, sound_b.bytes);
-  no_reach = λ c h. grind (arith, common_steps, sound_a.few, sound_b.no_reach);
-  no_cabinet = λ c f h. grind (arith, common_steps, sound_a.few, sound_b.no_cabinet);
-  no_file = λ c f h. grind (arith, common_steps, sound_a.no_file, sound_b.no_file);
+  no_reach = λ c h. none_past a b sound_a sound_b a.reach b.reach false c h sound_b.no_reach;
+  no_cabinet = λ c f h. none_past a b sound_a sound_b (λ d. a.slot d f) (λ d. b.slot d f) Empty c h (λ d k. sound_b.no_cabinet d f k);
+  no_file = no_file_past a b sound_a sound_b;
 }
