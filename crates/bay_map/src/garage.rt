@@ -3,18 +3,20 @@ ghost use Rattle.std.specs.Prelude.{◌≡◌, ℕ, ◌<◌, false, Ok, length, 
 ghost use Rattle.aes128.specs.Aes.{aes};
 ghost use Rattle.aont.specs.Package.{sealed};
 ghost use Rattle.aont.specs.Seals.{seal_answer};
-ghost use Rattle.owned.specs.Fronts.{front_of_zeros};
+ghost use Rattle.owned.specs.Fronts.{Gives, front_of_zeros};
 ghost use Rattle.rows.specs.Model.{Condemned, Held, with_reach, with_slot};
-ghost use Rattle.bay_map.specs.Kept.{Keeps};
+ghost use Rattle.bay_map.specs.Kept.{Keeps, or_blank, record_at, restocked};
 
 use crate::BAY_MAP;
-use crate::showing::{KEY, report, sealed};
+use crate::showing::{KEY, blank_package, report, sealed};
 use aes128::Aes128;
 use anyhow::Error;
-use erasure::Plan;
+use erasure::{Plan, SliceFault, cut};
 use gf256::Gf256;
+use owned::front;
 use rows::row::Row;
 use rows::table::Table;
+use std::alloc::{AllocError, Global};
 use std::io;
 
 // A bay map, its package, and the cabinets, each of which keeps a record of the package. Where a call fails, what the cabinets
@@ -28,7 +30,9 @@ pub struct Garage<R> {
 }
 
 impl<R: Row + Drop> Garage<R> {
-    // Seals the bay map, and stores a record of the package in each cabinet, swapped in for it.
+    // Seals the bay map, and stores a record of the package in each cabinet, swapped in for it. A file that is too long is not
+    // sealed, and a record that is longer than the row's room is not stored: that is printed, and it goes on with a package of
+    // zeros, and with a cabinet that keeps nothing.
     pub fn stocked(
         rt: &(impl Print + AllocGlobal),
         file: Vec<u8>,
@@ -36,11 +40,13 @@ impl<R: Row + Drop> Garage<R> {
     ) -> anyhow::Result<Self>
         ensures file { IfOk result (λ g. g.file ≡ file) }
         ensures plan { IfOk result (λ g. (g.plan.k ≡ 3) × (g.plan.n ≡ 5)) }
-        ensures package { IfOk result (λ g. front_of_zeros (seal_answer (length file.items) 16 4128) (sealed aes 11 KEY file.items) 4128 ≡ Ok g.package.items) }
+        ensures package { IfOk result (λ g. g.package.items ≡ or_blank (front_of_zeros (seal_answer (length file.items) 16 4128) (sealed aes 11 KEY file.items) 4128)) }
         ensures kept { IfOk result (λ g. (c : ℕ) → c < 5 → Keeps (R.ReadRow.model g.cabinets) 3 5 g.package.items c) }
     {
-        println!(rt; "Cut for 5 cabinets, any 3 of which restore it, over GF(256)")?;
-        let package = sealed::<Aes128>(rt, file.as_slice())?;
+        let package = match sealed::<Aes128>(rt, file.as_slice())? {
+            Ok(package) => package,
+            Err(fault) => blank_package(rt, fault)?,
+        };
         report(rt, "cut", "the package", package.len())?;
         let plan = Plan::new(3, 5).map_err(Error::msg)?;
         let mut garage = Garage {
@@ -55,18 +61,40 @@ impl<R: Row + Drop> Garage<R> {
         Ok(garage)
     }
 
+    // The record that a cabinet is to keep, or the refusal where the row has no room for it.
+    fn cut_record(
+        &self,
+        alloc: Global,
+        cabinet: usize,
+    ) -> Result<Result<Vec<u8>, SliceFault>, AllocError>
+        ensures { IfOk result (Gives (record_at (R.ReadRow.model self.now.cabinets).room self.now.plan.k self.now.plan.n self.now.package.items cabinet)) }
+    {
+        let mut output = vec![in alloc; 0u8; self.cabinets.room()]?;
+        let package = self.package.as_slice();
+        let answer = cut::<Gf256>(&self.plan, package, cabinet, 1, output.as_mut_slice());
+        front(alloc, output.as_slice(), answer)
+    }
+
+    // Swaps a cabinet in, and stores its record in it, or prints why the row has no room for one.
+    fn keep(&mut self, rt: &(impl Print + AllocGlobal), cabinet: usize) -> anyhow::Result<()>
+        ensures stays { self.new ≡ record self.old { cabinets = self.new.cabinets } }
+        ensures kept { OnOk result (R.ReadRow.model self.new.cabinets ≡ restocked (R.ReadRow.model self.old.cabinets) self.old.plan.k self.old.plan.n self.old.package.items cabinet) }
+    {
+        self.cabinets.swap(cabinet).map_err(Error::msg)?;
+        match self.cut_record(rt.alloc(), cabinet)? {
+            Ok(record) => self.store(rt, cabinet, record.as_slice())?,
+            Err(fault) => println!(rt; "  cut     {fault}")?,
+        }
+        Ok(())
+    }
+
     // Swaps each cabinet in, and stores its record in it.
     fn fill(&mut self, rt: &(impl Print + AllocGlobal)) -> anyhow::Result<()>
         ensures stays { self.new ≡ record self.old { cabinets = self.new.cabinets } }
         ensures kept { OnOk result ((c : ℕ) → c < self.new.plan.n → Keeps (R.ReadRow.model self.new.cabinets) self.new.plan.k self.new.plan.n self.new.package.items c) }
     {
         for cabinet in 0..self.plan.fitted() {
-            self.cabinets.swap(cabinet).map_err(Error::msg)?;
-            let package = self.package.as_slice();
-            let record = owned::cut::<Gf256>(rt.alloc(), &self.plan, package, cabinet, 1)?.map_err(
-                Error::msg,
-            )?;
-            self.store(rt, cabinet, record.as_slice())?;
+            self.keep(rt, cabinet)?;
         }
         Ok(())
     }

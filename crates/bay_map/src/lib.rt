@@ -7,7 +7,7 @@ mod showing;
 mod tests;
 
 pub use crate::garage::Garage;
-pub use crate::showing::{report, sealed, try_unseal};
+pub use crate::showing::{blank_package, report, sealed, try_unseal};
 
 // The bay map's number among the files of a cabinet.
 pub const BAY_MAP: usize = 0;

@@ -1,5 +1,6 @@
 use super::*;
 use aes128::Aes128;
+use rows::row::ReadRow;
 use shelf::Shelf;
 use std::test::Fail;
 
@@ -7,7 +8,7 @@ use std::test::Fail;
 #[test]
 fn keeps_a_bay_map(rt: HostRuntime) -> Result<(), Fail> {
     let file = vec![in rt.alloc(); 7u8; 12]?;
-    let package = sealed::<Aes128>(&rt, file.as_slice())?;
+    let package = sealed::<Aes128>(&rt, file.as_slice())??;
     assert_eq!(rt; package.len(), 48);
     try_unseal::<Aes128>(&rt, "the package", package.as_slice(), file.as_slice())?;
     let mut memory = vec![in rt.alloc(); 0u8; SHELF]?;
@@ -15,5 +16,20 @@ fn keeps_a_bay_map(rt: HostRuntime) -> Result<(), Fail> {
     garage.lose_two(&rt)?;
     garage.store(&rt, 4, package.as_slice())?;
     garage.print_table(&rt)?;
+    Ok(())
+}
+
+// With memory left it goes on past a record that is longer than the room and past a file that is too long to be sealed.
+#[test]
+fn goes_on_past_refusals(rt: HostRuntime) -> Result<(), Fail> {
+    for (bytes, sealed) in [(300, 336), (301, 352), (4093, 4128)] {
+        let file = vec![in rt.alloc(); 7u8; bytes]?;
+        let mut memory = vec![in rt.alloc(); 0u8; SHELF]?;
+        let garage = Garage::stocked(&rt, file, Shelf::new(memory.as_mut_slice(), ROOM))?;
+        assert_eq!(rt; garage.package.len(), sealed);
+        let mut record = [0u8; ROOM];
+        let answer = garage.cabinets.read(4, BAY_MAP, &mut record);
+        assert_eq!(rt; answer.is_ok(), bytes == 300);
+    }
     Ok(())
 }

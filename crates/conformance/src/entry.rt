@@ -4,22 +4,21 @@ use algebra::Field;
 use anyhow::{Context, Error, Result, ensure};
 use cipher::Cipher;
 use erasure::Plan;
-use owned::{Found, cut, seal, unseal};
+use owned::{Found, cut, unseal};
 use std::alloc::Global;
 
 // A package, and the record that each cabinet of a plan keeps of it.
 #[derive(Drop)]
 pub struct Entry {
     plan: Plan,
-    pub package: Vec<u8>,
+    package: Vec<u8>,
     pub records: Vec<Vec<u8>>,
 }
 
 impl Entry {
-    // The entry of a case, whose file this is.
-    pub fn of<C: Cipher, F: Field>(alloc: Global, case: &Case, file: &[u8]) -> Result<Entry> {
+    // The entry of a case, whose package this is.
+    pub fn of<F: Field>(alloc: Global, case: &Case, package: Vec<u8>) -> Result<Entry> {
         let plan = Plan::new(case.k, case.n).map_err(Error::msg)?;
-        let package = seal::<C>(alloc, &case.key, file)?.map_err(Error::msg)?;
         let mut records = Vec::new(alloc);
         for cabinet in 0..plan.fitted() {
             let record = cut::<F>(alloc, &plan, package.as_slice(), cabinet, case.issue)?;

@@ -2,9 +2,9 @@
 use crate::cases::Case;
 use crate::entry::Entry;
 use algebra::Field;
-use anyhow::Result;
+use anyhow::{Error, Result};
 use cipher::Cipher;
-use owned::counted_file;
+use owned::{Hex, counted_file, seal};
 
 // Prints entries, each with its number.
 #[derive(Drop)]
@@ -34,11 +34,12 @@ impl<'a> Table<'a> {
         let file = &whole[..case.bytes.min(whole.len())];
         self.bytes("key", &case.key)?;
         self.bytes("file", file)?;
-        let entry = Entry::of::<C, F>(self.rt.alloc(), case, file)?;
-        self.bytes("package", entry.package.as_slice())?;
+        let package = seal::<C>(self.rt.alloc(), &case.key, file)?.map_err(Error::msg)?;
+        self.bytes("package", package.as_slice())?;
+        let entry = Entry::of::<F>(self.rt.alloc(), case, package)?;
         for (cabinet, record) in entry.records.iter().enumerate() {
-            let record = hex::encode(self.rt.alloc(), record.as_slice())?;
-            println!(self.rt; "record {cabinet} {record}")?;
+            let shown = Hex(record.as_slice());
+            println!(self.rt; "record {cabinet} {shown}")?;
         }
         entry.check::<C, F>(self.rt.alloc(), case, file)?;
         self.joined(case.joined)
@@ -48,8 +49,8 @@ impl<'a> Table<'a> {
         if bytes.is_empty() {
             println!(self.rt; "{name}")?;
         } else {
-            let bytes = hex::encode(self.rt.alloc(), bytes)?;
-            println!(self.rt; "{name} {bytes}")?;
+            let shown = Hex(bytes);
+            println!(self.rt; "{name} {shown}")?;
         }
         Ok(())
     }

@@ -1,12 +1,17 @@
 // A bay map sealed, unsealed, and found unreadable in any other state.
-use bay_map::{report, sealed, try_unseal};
+use bay_map::{blank_package, report, sealed, try_unseal};
 use cipher::Cipher;
 
 pub fn show<C: Cipher>(rt: &HostRuntime, name: &str, file: &[u8]) -> anyhow::Result<()> {
     println!(rt; "\n{name}")?;
-    let mut package = sealed::<C>(rt, file)?;
-    let what = "the bay map, under a key that nobody keeps";
-    report(rt, "seal", what, package.len())?;
+    let mut package = match sealed::<C>(rt, file)? {
+        Ok(package) => {
+            let what = "the bay map, under a key that nobody keeps";
+            report(rt, "seal", what, package.len())?;
+            package
+        }
+        Err(fault) => blank_package(rt, fault)?,
+    };
     try_unseal::<C>(rt, "the whole package", package.as_slice(), file)?;
     if let Some((front, _)) = package.as_slice().split_last_chunk::<16>() {
         try_unseal::<C>(rt, "without its last block", front, file)?;

@@ -3,7 +3,7 @@ use bay_map::{Garage, ROOM, SHELF};
 use shelf::Shelf;
 
 pub fn show(rt: &HostRuntime, file: Vec<u8>) -> anyhow::Result<()> {
-    println!(rt; "")?;
+    println!(rt; "\nCut for 5 cabinets, any 3 of which restore it, over GF(256)")?;
     let mut memory = vec![in rt.alloc(); 0u8; SHELF]?;
     let shelf = Shelf::new(memory.as_mut_slice(), ROOM);
     let mut garage = Garage::stocked(rt, file, shelf)?;

@@ -1,6 +1,5 @@
 // The bay map from the records that the cabinets still hold.
 use aes128::Aes128;
-use anyhow::Error;
 use bay_map::{BAY_MAP, Garage, ROOM, report, try_unseal};
 use gf256::Gf256;
 use owned::{Found, front};
@@ -52,17 +51,22 @@ pub fn restore<R: Row + Drop>(rt: &HostRuntime, garage: &Garage<R>) -> anyhow::R
     Ok(())
 }
 
-// Rebuilds the record of a cabinet from those of others, and writes it back.
+// Rebuilds the record of a cabinet from those of others, and writes it back, or says why it cannot be rebuilt.
 pub fn mend<R: Row + Drop>(
     rt: &HostRuntime,
     garage: &mut Garage<R>,
     cabinet: usize,
 ) -> anyhow::Result<()> {
     let found = read_records(rt, garage)?;
-    let record = found
-        .rebuild::<Gf256>(rt.alloc(), cabinet)?
-        .map_err(Error::msg)?;
-    let what = format!(in rt.alloc(); "the record of cabinet {cabinet}, from these records")?;
-    report(rt, "rebuild", what.as_str(), record.len())?;
-    garage.store(rt, cabinet, record.as_slice())
+    match found.rebuild::<Gf256>(rt.alloc(), cabinet)? {
+        Ok(record) => {
+            let what = format!(in rt.alloc();
+                "the record of cabinet {cabinet}, from these records"
+            )?;
+            report(rt, "rebuild", what.as_str(), record.len())?;
+            garage.store(rt, cabinet, record.as_slice())?;
+        }
+        Err(fault) => println!(rt; "  rebuild {fault}")?,
+    }
+    Ok(())
 }

@@ -1,5 +1,6 @@
-// Sealing, cutting and joining for programs that have a heap: what a call writes comes as a vector of its own, as long as it needs
-// to be, beside the call's refusal. A call fails besides only where memory does.
+// For programs. Sealing, cutting and joining where there is a heap: what a call writes comes as a vector of its own, as long as it
+// needs to be, beside the call's refusal, and a call fails besides only where memory does. And without a heap: bytes as hex text,
+// and a file to try the calls on.
 #![tactic(auto, using(crate::proofs::FrontsLemmas::front_written))]
 
 ghost use Rattle.std.specs.Prelude.{◌≡◌, ℕ, ◌*◌, ◌%◌, ◌<◌, IfOk, length, slice_index};
@@ -21,10 +22,10 @@ use aont::SealFault;
 use cipher::Cipher;
 use erasure::{Plan, SliceFault};
 use std::alloc::{AllocError, Global};
-use std::array;
+use std::{array, fmt};
 
 // No package is longer.
-const LONGEST_PACKAGE: usize = 4128;
+pub const LONGEST_PACKAGE: usize = 4128;
 
 // No record is longer: that of the longest package whole, in GF(65537).
 const LONGEST_RECORD: usize = 6198;
@@ -39,11 +40,7 @@ pub fn front<E>(
     ensures { IfOk result (Gives (front answer output.now)) }
 {
     match answer {
-        Ok(written) => {
-            let mut bytes = output.to_vec(alloc)?;
-            bytes.truncate(written);
-            Ok(Ok(bytes))
-        }
+        Ok(written) => Ok(Ok(output[..written.min(output.len())].to_vec(alloc)?)),
         Err(fault) => Ok(Err(fault)),
     }
 }
@@ -86,6 +83,19 @@ pub fn cut<F: Field>(
     let mut output = [0u8; LONGEST_RECORD];
     let answer = erasure::cut::<F>(plan, package, cabinet, issue, &mut output);
     front(alloc, &output, answer)
+}
+
+// Shows bytes as hex text, two digits to a byte, with no memory of its own.
+#[derive(Clone, Copy)]
+pub struct Hex<'a>(pub &'a [u8]);
+
+impl fmt::Display for Hex<'_> {
+    fn fmt<W: fmt::Write>(&self, f: &mut fmt::Formatter<W>) -> fmt::Result {
+        for byte in self.0 {
+            write!(f, "{byte:02x}")?;
+        }
+        Ok(())
+    }
 }
 
 // A file to try the calls on: as long as a file can be, and its byte i is 7 i modulo 256.

@@ -1,11 +1,9 @@
 // The published vectors of both ciphers.
-use crate::report::Report;
+use crate::report::{Report, block};
 use aes128::Aes128;
-use anyhow::Result;
 use cipher::Cipher;
-use hex::FromHex;
 use speck128::Speck128;
-use std::fmt;
+use std::{fmt, io};
 
 // One published encryption, in hex.
 #[derive(Clone, Copy)]
@@ -154,31 +152,35 @@ const SPECK_VECTORS: [Vector; 1] = [Vector {
     answer: "180d575cdffe60786532787951985da6",
 }];
 
-fn round_keys(report: &mut Report<'_>) -> Result<()> {
+fn round_keys(report: &mut Report<'_>) -> io::Result<()> {
     report.heading(format_args!("FIPS 197 A.1: the round keys of {EXPANDED_KEY}"))?;
-    let cipher = Aes128::with_key(&<[u8; 16]>::from_hex(EXPANDED_KEY)?);
+    let cipher = Aes128::with_key(&block(EXPANDED_KEY)?);
     for (round, expected) in ROUND_KEYS.iter().enumerate() {
-        report.bytes(
+        report.block(
             format_args!("round {round:3}"),
             &cipher.round_key(round),
-            expected,
+            &block(expected)?,
         )?;
     }
     Ok(())
 }
 
-fn encryptions<C: Cipher>(report: &mut Report<'_>, name: &str, vectors: &[Vector]) -> Result<()> {
+fn encryptions<C: Cipher>(
+    report: &mut Report<'_>,
+    name: &str,
+    vectors: &[Vector],
+) -> io::Result<()> {
     report.heading(format_args!("{name:14}  {:32}  {:32}  answer", "key", "block"))?;
     for vector in vectors {
-        let cipher = C::with_key(&<[u8; 16]>::from_hex(vector.key)?);
-        let answer = cipher.encrypt(&<[u8; 16]>::from_hex(vector.block)?);
-        report.bytes(vector, &answer, vector.answer)?;
+        let cipher = C::with_key(&block(vector.key)?);
+        let answer = cipher.encrypt(&block(vector.block)?);
+        report.block(vector, &answer, &block(vector.answer)?)?;
     }
     Ok(())
 }
 
 // Prints the published key expansion and encryptions beside ours.
-pub fn print(report: &mut Report<'_>) -> Result<()> {
+pub fn print(report: &mut Report<'_>) -> io::Result<()> {
     round_keys(report)?;
     report.heading("")?;
     encryptions::<Aes128>(report, "AES-128", &AES_VECTORS)?;

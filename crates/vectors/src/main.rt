@@ -2,17 +2,17 @@
 #![tactic(auto)]
 
 use report::Report;
+use std::io;
 
 mod ciphers;
 mod packages;
 mod report;
 
-fn main(rt: HostRuntime) -> anyhow::Result<()> {
+fn main(rt: HostRuntime) -> io::Result<()> {
     let mut report = Report::new(&rt);
     ciphers::print(&mut report)?;
     report.heading("")?;
     packages::print(&mut report)?;
     report.heading("")?;
-    report.end()?;
-    Ok(())
+    report.end()
 }

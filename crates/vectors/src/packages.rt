@@ -1,12 +1,12 @@
 // Packages: how long they are, that they unseal to what was sealed, and their bytes, which a second program made too
 // (tools/reference.py, from docs/FORMATS.md).
-use crate::report::Report;
+use crate::report::{Report, block};
 use aes128::Aes128;
-use anyhow::{Error, Result};
+use aont::{LONGEST_FILE, SealFault, seal, unseal};
 use cipher::Cipher;
-use hex::FromHex;
-use owned::{counted_file, seal, unseal};
+use owned::{LONGEST_PACKAGE, counted_file};
 use speck128::Speck128;
+use std::io;
 
 // the lengths of a file and of its package
 const LENGTHS: [(usize, usize); 4] = [(0, 48), (12, 48), (13, 64), (4092, 4128)];
@@ -85,25 +85,35 @@ const PACKAGES: [Sealed; 4] = [
     },
 ];
 
+fn refused(_fault: SealFault) -> io::Error {
+    io::Error::other("a file was not sealed and unsealed")
+}
+
+// As much of an output's front as a call answered that it wrote.
+fn front(output: &[u8], written: usize) -> &[u8] {
+    &output[..written.min(output.len())]
+}
+
 // Seals the front of the longest file and unseals it, and prints the lengths.
 fn lengths<C: Cipher>(
     report: &mut Report<'_>,
     name: &str,
     file: &[u8],
     expected: usize,
-) -> Result<()> {
-    let package = seal::<C>(report.alloc(), &[7; 16], file)?.map_err(Error::msg)?;
-    let back = unseal::<C>(report.alloc(), package.as_slice())?.map_err(Error::msg)?;
-    let (length, sealed, unsealed) = (file.len(), package.len(), back.len());
-    let right = sealed == expected && back.as_slice() == file;
+) -> io::Result<()> {
+    let mut package = [0u8; LONGEST_PACKAGE];
+    let mut back = [0u8; LONGEST_FILE];
+    let sealed = seal::<C>(&[7; 16], file, &mut package).map_err(refused)?;
+    let unsealed = unseal::<C>(front(&package, sealed), &mut back).map_err(refused)?;
+    let length = file.len();
+    let right = sealed == expected && front(&back, unsealed) == file;
     report.claim(
         right,
         format_args!("  {name:12}  {length:8}  {sealed:8}  {unsealed:8}"),
-    )?;
-    Ok(())
+    )
 }
 
-fn all_lengths<C: Cipher>(report: &mut Report<'_>, name: &str) -> Result<()> {
+fn all_lengths<C: Cipher>(report: &mut Report<'_>, name: &str) -> io::Result<()> {
     let whole = counted_file();
     for (file, package) in LENGTHS {
         lengths::<C>(report, name, &whole[..file.min(whole.len())], package)?;
@@ -117,29 +127,29 @@ fn package<C: Cipher>(
     name: &str,
     expected: &Sealed,
     blocks: &[&str],
-) -> Result<()> {
+) -> io::Result<()> {
     let whole = counted_file();
     let file = match expected.file {
         File::Text(text) => text.as_bytes(),
         File::Longest => &whole,
     };
-    let key = <[u8; 16]>::from_hex(expected.key)?;
-    let package = seal::<C>(report.alloc(), &key, file)?.map_err(Error::msg)?;
-    let (key, length, sealed) = (expected.key, file.len(), package.len());
+    let mut package = [0u8; LONGEST_PACKAGE];
+    let sealed = seal::<C>(&block(expected.key)?, file, &mut package).map_err(refused)?;
+    let (key, length) = (expected.key, file.len());
     report.claim(
         sealed == expected.length,
         format_args!("{name}: {length} bytes sealed to {sealed} under {key}"),
     )?;
     let before = (expected.length / 16).saturating_sub(blocks.len());
-    let sealed = package.as_slice().chunks_exact(16).skip(before);
-    for (number, (block, expected)) in (before + 1..).zip(sealed.zip(blocks)) {
-        report.bytes(format_args!("block {number:3}"), block, expected)?;
+    let ours = front(&package, sealed).chunks_exact(16).skip(before);
+    for (number, (ours, theirs)) in (before + 1..).zip(ours.zip(blocks)) {
+        report.block(format_args!("block {number:3}"), ours, &block(theirs)?)?;
     }
     Ok(())
 }
 
 // Prints the lengths of packages, and packages beside those of the second program.
-pub fn print(report: &mut Report<'_>) -> Result<()> {
+pub fn print(report: &mut Report<'_>) -> io::Result<()> {
     report.heading("bytes of a          file   package  unsealed")?;
     all_lengths::<Aes128>(report, "AES-128")?;
     all_lengths::<Speck128>(report, "Speck128/128")?;

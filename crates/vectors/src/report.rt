@@ -1,7 +1,13 @@
 // The report as it is printed: what was computed, line for line, and whether it is what it ought to be.
-use std::alloc::Global;
+use hex::FromHex;
+use owned::Hex;
 use std::fmt::Display;
 use std::io;
+
+// The block that 32 hex digits spell.
+pub fn block(digits: &str) -> io::Result<[u8; 16]> {
+    <[u8; 16]>::from_hex(digits).map_err(|_| io::Error::other("these are not 32 hex digits"))
+}
 
 // Prints the lines, and counts those that are right and those that are wrong.
 #[derive(Drop)]
@@ -20,10 +26,6 @@ impl<'a> Report<'a> {
         }
     }
 
-    pub fn alloc(&self) -> Global {
-        self.rt.alloc()
-    }
-
     // Prints a line that claims nothing.
     pub fn heading(&self, line: impl Display + Drop) -> io::Result<()> {
         self.rt.println(line)
@@ -40,18 +42,15 @@ impl<'a> Report<'a> {
         }
     }
 
-    // Prints bytes in hex behind what they are, compared with the hex that they ought to be.
-    pub fn bytes(
+    // Prints a block in hex behind what it is, compared with the block that it ought to be.
+    pub fn block(
         &mut self,
         what: impl Display + Drop,
-        bytes: &[u8],
-        expected: &str,
+        block: &[u8],
+        expected: &[u8],
     ) -> io::Result<()> {
-        let shown = hex::encode(self.alloc(), bytes)?;
-        self.claim(
-            shown.as_str() == expected,
-            format_args!("  {what}  {shown}"),
-        )
+        let shown = Hex(block);
+        self.claim(block == expected, format_args!("  {what}  {shown}"))
     }
 
     // Prints the counts.

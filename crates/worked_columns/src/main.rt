@@ -2,12 +2,11 @@
 #![tactic(auto)]
 
 use algebra::Field;
-use anyhow::{Context, Error, Result};
-use erasure::Plan;
+use erasure::{Plan, SliceFault, cut};
 use gf256::Gf256;
 use gf65537::Gf65537;
-use owned::cut;
-use std::{array, fmt};
+use owned::Hex;
+use std::{array, fmt, io};
 
 // A column, its bytes in a package, and what a cabinet stores for it.
 #[derive(Clone, Copy)]
@@ -66,32 +65,35 @@ const IN_GF65537: [Worked; 2] = [
     },
 ];
 
+fn refused(_fault: SliceFault) -> io::Error {
+    io::Error::other("a package was not cut")
+}
+
 // Prints the first symbol of the cabinet's record, as it is stored, and whether it is what it ought to be.
-fn stored<F: Field>(rt: &HostRuntime, name: &str, worked: &Worked) -> Result<()> {
-    let plan = Plan::new(worked.k, 16).map_err(Error::msg)?;
+fn stored<F: Field>(rt: &HostRuntime, name: &str, worked: &Worked) -> io::Result<()> {
+    let plan = Plan::new(worked.k, 16).map_err(refused)?;
     // the shortest package that begins with these bytes and has zeros behind them
     let package: [u8; 48] = array::from_fn(|i| worked.bytes.get(i).copied().unwrap_or(0));
-    let record = cut::<F>(rt.alloc(), &plan, &package, worked.cabinet, 1)?.map_err(Error::msg)?;
-    let symbol = record.as_slice().get(6..6 + F::stored_width().min(3));
-    let symbol = symbol.context("a record has no symbol")?;
-    let shown = hex::encode(rt.alloc(), symbol)?;
+    let mut record = [0u8; 48];
+    cut::<F>(&plan, &package, worked.cabinet, 1, &mut record).map_err(refused)?;
+    let symbol = &record[6..6 + F::stored_width().min(3)];
+    let shown = Hex(symbol);
     let verdict = if symbol == worked.stored {
         "ok"
     } else {
         "WRONG"
     };
-    println!(rt; "  {name:9}  {worked}  {shown}  {verdict}")?;
-    Ok(())
+    println!(rt; "  {name:9}  {worked}  {shown}  {verdict}")
 }
 
-fn all_stored<F: Field>(rt: &HostRuntime, name: &str, columns: &[Worked]) -> Result<()> {
+fn all_stored<F: Field>(rt: &HostRuntime, name: &str, columns: &[Worked]) -> io::Result<()> {
     for worked in columns {
         stored::<F>(rt, name, worked)?;
     }
     Ok(())
 }
 
-fn main(rt: HostRuntime) -> Result<()> {
+fn main(rt: HostRuntime) -> io::Result<()> {
     println!(rt; "field        k  column   cabinet  stored")?;
     all_stored::<Gf256>(&rt, "GF(256)", &IN_GF256)?;
     all_stored::<Gf65537>(&rt, "GF(65537)", &IN_GF65537)
