@@ -15,8 +15,12 @@ or_blank (Err e) = replicate 4128 0
 
 -- the record of cabinet c that any k of n restore the package from, over GF(256), with issue 1, or the refusal of one that is
 -- longer than the room
-abbrev pub record_at : ℕ → ℕ → ℕ → List ℕ → ℕ → Result (List ℕ) SliceFault
-record_at room k n pkg c = front_of_zeros (cut_answer (coding gf256 1 1 1 k) n (length pkg) c 1 room) (record_of (coding gf256 1 1 1 k) pkg c 1) room
+abbrev pub record_within : ℕ → ℕ → ℕ → List ℕ → ℕ → Result (List ℕ) SliceFault
+record_within room k n pkg c = front_of_zeros (cut_answer (coding gf256 1 1 1 k) n (length pkg) c 1 room) (record_of (coding gf256 1 1 1 k) pkg c 1) room
+
+-- that record where there is room for any: none is longer than 6198 bytes
+abbrev pub record_at : ℕ → ℕ → List ℕ → ℕ → Result (List ℕ) SliceFault
+record_at k n pkg c = record_within 6198 k n pkg c
 
 -- the slot that gets such a record, and nothing on a refusal
 abbrev pub slot_with : Result (List ℕ) SliceFault → Slot
@@ -25,9 +29,16 @@ slot_with (Err fault) = Empty
 
 -- the row with a new cabinet in the place of one, which keeps its record of the package as file 0
 abbrev pub restocked : RowModel → ℕ → ℕ → List ℕ → ℕ → RowModel
-restocked row k n pkg c = with_slot (with_new row c) c 0 (slot_with (record_at row.room k n pkg c))
+restocked row k n pkg c = with_slot (with_new row c) c 0 (slot_with (record_within row.room k n pkg c))
 
--- Cabinet c is in reach, and keeps its record of the package as file 0, or nothing where the row has no room for the record.
+-- Cabinet c is in reach, and keeps its record of the package as file 0.
 pub record Keeps (row : RowModel) (k n : ℕ) (pkg : List ℕ) (c : ℕ) : Type 0 where
   pub near : row.reach c ≡ true
-  pub holds : row.slot c 0 ≡ slot_with (record_at row.room k n pkg c)
+  pub kept : List ℕ
+  pub holds : row.slot c 0 ≡ Held kept
+  pub made : record_at k n pkg c ≡ Ok kept
+
+-- Cabinet c is in reach, and keeps its record of the package as file 0, or nothing where the row has no room for the record.
+pub record KeepsWhatFits (row : RowModel) (k n : ℕ) (pkg : List ℕ) (c : ℕ) : Type 0 where
+  pub near : row.reach c ≡ true
+  pub holds : row.slot c 0 ≡ slot_with (record_within row.room k n pkg c)

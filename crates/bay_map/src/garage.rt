@@ -5,7 +5,7 @@ ghost use Rattle.aont.specs.Package.{sealed};
 ghost use Rattle.aont.specs.Seals.{seal_answer};
 ghost use Rattle.owned.specs.Fronts.{Gives, front_of_zeros};
 ghost use Rattle.rows.specs.Model.{Condemned, Held, with_reach, with_slot};
-ghost use Rattle.bay_map.specs.Kept.{Keeps, or_blank, record_at, restocked};
+ghost use Rattle.bay_map.specs.Kept.{KeepsWhatFits, or_blank, record_within, restocked};
 
 use crate::BAY_MAP;
 use crate::showing::{KEY, blank_package, report, sealed};
@@ -33,7 +33,7 @@ impl<R: Row + Drop> Garage<R> {
     // Seals the bay map, and stores a record of the package in each cabinet, swapped in for it. A file that is too long is not
     // sealed, and a record that is longer than the row's room is not stored: that is printed, and it goes on with a package of
     // zeros, and with a cabinet that keeps nothing.
-    pub fn stocked(
+    pub fn stocked_past_refusals(
         rt: &(impl Print + AllocGlobal),
         file: Vec<u8>,
         cabinets: R,
@@ -41,7 +41,7 @@ impl<R: Row + Drop> Garage<R> {
         ensures file { IfOk result (λ g. g.file ≡ file) }
         ensures plan { IfOk result (λ g. (g.plan.k ≡ 3) × (g.plan.n ≡ 5)) }
         ensures package { IfOk result (λ g. g.package.items ≡ or_blank (front_of_zeros (seal_answer (length file.items) 16 4128) (sealed aes 11 KEY file.items) 4128)) }
-        ensures kept { IfOk result (λ g. (c : ℕ) → c < 5 → Keeps (R.ReadRow.model g.cabinets) 3 5 g.package.items c) }
+        ensures kept { IfOk result (λ g. (c : ℕ) → c < 5 → KeepsWhatFits (R.ReadRow.model g.cabinets) 3 5 g.package.items c) }
     {
         let package = match sealed::<Aes128>(rt, file.as_slice())? {
             Ok(package) => package,
@@ -55,7 +55,7 @@ impl<R: Row + Drop> Garage<R> {
             plan,
             cabinets,
         };
-        garage.fill(rt)?;
+        garage.fill_past_refusals(rt)?;
         println!(rt; "\nThe shelf: the bytes that each slot holds")?;
         garage.print_table(rt)?;
         Ok(garage)
@@ -67,7 +67,7 @@ impl<R: Row + Drop> Garage<R> {
         alloc: Global,
         cabinet: usize,
     ) -> Result<Result<Vec<u8>, SliceFault>, AllocError>
-        ensures { IfOk result (Gives (record_at (R.ReadRow.model self.now.cabinets).room self.now.plan.k self.now.plan.n self.now.package.items cabinet)) }
+        ensures { IfOk result (Gives (record_within (R.ReadRow.model self.now.cabinets).room self.now.plan.k self.now.plan.n self.now.package.items cabinet)) }
     {
         let mut output = vec![in alloc; 0u8; self.cabinets.room()]?;
         let package = self.package.as_slice();
@@ -88,10 +88,10 @@ impl<R: Row + Drop> Garage<R> {
         Ok(())
     }
 
-    // Swaps each cabinet in, and stores its record in it.
-    fn fill(&mut self, rt: &(impl Print + AllocGlobal)) -> anyhow::Result<()>
+    // Swaps each cabinet in, and stores its record in it where the row has room for it.
+    fn fill_past_refusals(&mut self, rt: &(impl Print + AllocGlobal)) -> anyhow::Result<()>
         ensures stays { self.new ≡ record self.old { cabinets = self.new.cabinets } }
-        ensures kept { OnOk result ((c : ℕ) → c < self.new.plan.n → Keeps (R.ReadRow.model self.new.cabinets) self.new.plan.k self.new.plan.n self.new.package.items c) }
+        ensures kept { OnOk result ((c : ℕ) → c < self.new.plan.n → KeepsWhatFits (R.ReadRow.model self.new.cabinets) self.new.plan.k self.new.plan.n self.new.package.items c) }
     {
         for cabinet in 0..self.plan.fitted() {
             self.keep(rt, cabinet)?;

@@ -3,11 +3,12 @@
 
 mod garage;
 mod showing;
+mod strict;
 #[cfg(test)]
 mod tests;
 
 pub use crate::garage::Garage;
-pub use crate::showing::{blank_package, report, sealed, try_unseal};
+pub use crate::showing::{blank_package, report, sealed, try_unseal, try_unseal_anyhow};
 
 // The bay map's number among the files of a cabinet.
 pub const BAY_MAP: usize = 0;

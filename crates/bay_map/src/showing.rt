@@ -43,6 +43,28 @@ pub fn try_unseal<C: Cipher>(
     what: &str,
     package: &[u8],
     file: &[u8],
+) -> io::Result<()> {
+    match owned::unseal::<C>(rt.alloc(), package)? {
+        Ok(found) => {
+            let bytes = found.len();
+            let verdict = if found.as_slice() == file {
+                "the bay map again"
+            } else {
+                "ANOTHER FILE"
+            };
+            println!(rt; "  unseal  {what:<44} {bytes:>5} bytes: {verdict}")
+        }
+        Err(fault) => println!(rt; "  unseal  {what:<44} {fault}"),
+    }
+}
+
+// The same for a caller that answers an anyhow error: where memory runs out it says so in the allocator's words, not in those of an
+// io error. Its text stands twice, since one text under both took more instructions.
+pub fn try_unseal_anyhow<C: Cipher>(
+    rt: &(impl Print + AllocGlobal),
+    what: &str,
+    package: &[u8],
+    file: &[u8],
 ) -> anyhow::Result<()> {
     match owned::unseal::<C>(rt.alloc(), package)? {
         Ok(found) => {

@@ -1,6 +1,6 @@
 // The bay map from the records that the cabinets still hold.
 use aes128::Aes128;
-use bay_map::{BAY_MAP, Garage, ROOM, report, try_unseal};
+use bay_map::{BAY_MAP, Garage, ROOM, report, try_unseal_anyhow};
 use gf256::Gf256;
 use owned::{Found, front};
 use rows::row::{ReadRow, Row};
@@ -44,7 +44,7 @@ pub fn restore<R: Row + Drop>(rt: &HostRuntime, garage: &Garage<R>) -> anyhow::R
         Ok(package) => {
             report(rt, "join", "the package, from these records", package.len())?;
             let file = garage.file.as_slice();
-            try_unseal::<Aes128>(rt, "the joined package", package.as_slice(), file)?;
+            try_unseal_anyhow::<Aes128>(rt, "the joined package", package.as_slice(), file)?;
         }
         Err(fault) => println!(rt; "  join    {fault}")?,
     }

@@ -32,7 +32,7 @@ pub fn show(rt: &HostRuntime, file: Vec<u8>) -> anyhow::Result<()> {
     println!(rt; "Cut for 5 cabinets, any 3 of which restore it, over GF(256)")?;
     let mut memory = vec![in rt.alloc(); 0u8; SHELF]?;
     let shelf = Shelf::new(memory.as_mut_slice(), ROOM);
-    let mut garage = Garage::stocked(rt, file, shelf)?;
+    let mut garage = Garage::stocked_past_refusals(rt, file, shelf)?;
     lose(rt, &mut garage)?;
     repair(rt, &mut garage)
 }
