@@ -18,7 +18,7 @@ or_blank (Err e) = replicate 4128 0
 abbrev pub record_within : ℕ → ℕ → ℕ → List ℕ → ℕ → Result (List ℕ) SliceFault
 record_within room k n pkg c = front_of_zeros (cut_answer (coding gf256 1 1 1 k) n (length pkg) c 1 room) (record_of (coding gf256 1 1 1 k) pkg c 1) room
 
--- that record where there is room for any: none is longer than 6198 bytes
+-- the record of cabinet c that any k of n restore the package from, over GF(256), with issue 1: no record is longer than 6198 bytes
 abbrev pub record_at : ℕ → ℕ → List ℕ → ℕ → Result (List ℕ) SliceFault
 record_at k n pkg c = record_within 6198 k n pkg c
 

@@ -59,7 +59,7 @@ pub fn try_unseal<C: Cipher>(
 }
 
 // The same for a caller that answers an anyhow error: where memory runs out it says so in the allocator's words, not in those of an
-// io error. Its text stands twice, since one text under both took more instructions.
+// io error. The text stands twice: as one, generic in the error, it took the programs more instructions.
 pub fn try_unseal_anyhow<C: Cipher>(
     rt: &(impl Print + AllocGlobal),
     what: &str,

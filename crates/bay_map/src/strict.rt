@@ -1,4 +1,4 @@
-// A garage that is stocked whole, or not at all: the first refusal ends it.
+// A garage that keeps all of a bay map's records, or none is answered: the first refusal ends the stocking.
 ghost use Rattle.std.specs.Prelude.{◌≡◌, ℕ, ◌<◌, Ok, length, IfOk, OnOk};
 ghost use Rattle.aes128.specs.Aes.{aes};
 ghost use Rattle.aont.specs.Package.{sealed};

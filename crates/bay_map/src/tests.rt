@@ -59,7 +59,12 @@ fn stops_at_a_refusal(rt: HostRuntime) -> Result<(), Fail> {
         let file = vec![in rt.alloc(); 7u8; bytes]?;
         let mut memory = vec![in rt.alloc(); 0u8; SHELF]?;
         let outcome = match Garage::stocked(&rt, file, Shelf::new(memory.as_mut_slice(), ROOM)) {
-            Ok(garage) => format!(in rt.alloc(); "a package of {}", garage.package.len())?,
+            Ok(mut garage) => {
+                garage.lose_two(&rt)?;
+                garage.store(&rt, 4, package.as_slice())?;
+                garage.print_table(&rt)?;
+                format!(in rt.alloc(); "a package of {}", garage.package.len())?
+            }
             Err(fault) => format!(in rt.alloc(); "{fault}")?,
         };
         assert_eq!(rt; outcome.as_str(), expected);
